@@ -1,0 +1,4 @@
+pub mod Find
+pub mod Types
+pub mod Rows
+pub mod Refusals

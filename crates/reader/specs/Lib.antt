@@ -1,0 +1,5 @@
+pub mod Data
+pub mod Within
+pub mod Writing
+pub mod Reading
+pub mod Laws

@@ -1,0 +1,2 @@
+// The function file: its fields, and records that are parts of it.
+pub mod totals;
