@@ -1,5 +1,6 @@
 -- What reading and writing have to do with each other.
 use mathlib.Core.List.{List}
+use mathlib.Core.Logic.{_↔_}
 use mathlib.Core.Path.{_≡_}
 use Prim.Native.Nat.{ℕ}
 use Rattle.reader.specs.Data.{Func}

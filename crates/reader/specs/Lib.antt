@@ -3,3 +3,4 @@ pub mod Within
 pub mod Writing
 pub mod Reading
 pub mod Laws
+pub mod Told

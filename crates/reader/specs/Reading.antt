@@ -1,5 +1,5 @@
 -- Reading a file, field by field: the function that it is, or its first fault.
-use mathlib.Core.Bool.{Bool, true, false, cond, _||_}
+use mathlib.Core.Bool.{Bool, true, false, cond, _&&_}
 use mathlib.Core.List.{List, [], _∷_, _++_}
 use Prim.Native.Nat.{ℕ, zero, suc, _+_, _-_, _*_, _/_, _%_, _<_}
 use lib.Dec.{leb, eqb}
@@ -65,6 +65,10 @@ number k size s =
 -- a field whose number must pass a test
 abbrev pub only : (ℕ → Bool) → Reads ℕ → Reads ℕ
 only test p size s = after (p size s) (λ n t. cond (test n) (got n t) (fault 1 (place size s)))
+
+-- a byte within bounds
+abbrev pub ranged : ℕ → ℕ → Reads ℕ
+ranged least most = only (λ n. leb least n && leb n most) (number 1)
 
 -- a byte that names a case of an enumeration
 abbrev pub chosen : {A : Type 0} → Option A → Spot → ℕ → Read A
@@ -136,12 +140,12 @@ destination = target >>= λ b. uses 0 >>= λ vs. give (record { target = b; args
 
 -- destinations have no limit of their own
 abbrev pub destinations : Reads (List Destination)
-destinations = only (leb 1) (number 1) >>= λ n. repeated n destination
+destinations = ranged 1 255 >>= λ n. repeated n destination
 
 -- an instruction's map byte has no bit above bit 5
 abbrev pub instruction : Reads Instruction
 instruction =
-    only (λ n. leb n 63) (number 1) >>= λ map.
+    ranged 0 63 >>= λ map.
     named opcode-of >>= λ opcode.
     standing map 1 [] (uses 1) >>= λ operands.
     standing map 2 None (present (number 8)) >>= λ immediate.
@@ -154,7 +158,7 @@ instruction =
 -- a block up to its instructions: parameters, and how many instructions follow; bit 1 of its map always stands
 abbrev pub heading : Reads (List Ty × ℕ)
 heading =
-    only (λ n. eqb (n / 2) 1) (number 1) >>= λ map.
+    ranged 2 3 >>= λ map.
     standing map 1 [] types >>= λ params.
     count 2 1 Insts >>= λ n. give (params, n)
 
@@ -167,7 +171,7 @@ entry-of map =
     target >>= λ b. cond (eqb map 1) (give (to-block b)) (number 1 >>= λ k. give (to-edge b k))
 
 abbrev pub order-entry : Reads Entry
-order-entry = only (λ n. eqb n 1 || eqb n 2) (number 1) >>= entry-of
+order-entry = ranged 1 2 >>= entry-of
 
 -- what a file comes to: a function, or its first fault in reading
 pub data Outcome (A : Type 0) : Type 0 where

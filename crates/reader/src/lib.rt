@@ -1,2 +1,3 @@
 // The function file: its fields, and records that are parts of it.
+pub mod fields;
 pub mod totals;
