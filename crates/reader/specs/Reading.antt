@@ -93,13 +93,16 @@ raised Values n t = record { blocks = t .blocks; insts = t .insts; values = t .v
 raised Operands n t = record { blocks = t .blocks; insts = t .insts; values = t .values; operands = t .operands + n; entries = t .entries }
 raised Entries n t = record { blocks = t .blocks; insts = t .insts; values = t .values; operands = t .operands; entries = t .entries + n }
 
--- a count of a kind, in k bytes: too small a one is a fault of its own, and one beyond what the limit leaves is another
-abbrev pub count : ℕ → ℕ → Kind → Reads ℕ
-count k least kind size s =
-    after (number k size s) (λ n t.
+-- a count of a kind, read at a place: too small a one is a fault of its own, and one beyond what the limit leaves is another
+abbrev pub admitted : ℕ → ℕ → ℕ → Kind → Spot → Read ℕ
+admitted at n least kind s =
     cond (leb least n)
-    (cond (leb n (limit kind - total kind (s .totals))) (got n (record { rest = t .rest; totals = raised kind n (t .totals) })) (fault 2 (place size s)))
-    (fault 1 (place size s)))
+    (cond (leb n (limit kind - total kind (s .totals))) (got n (record { rest = s .rest; totals = raised kind n (s .totals) })) (fault 2 at))
+    (fault 1 at)
+
+-- a count of a kind, in k bytes
+abbrev pub count : ℕ → ℕ → Kind → Reads ℕ
+count k least kind size s = after (number k size s) (λ n t. admitted (place size s) n least kind t)
 
 -- n things of one form, one after another
 abbrev pub repeated : {A : Type 0} → ℕ → Reads A → Reads (List A)

@@ -1,3 +1,5 @@
 // The function file: its fields, and records that are parts of it.
 pub mod fields;
+pub mod lists;
+pub mod records;
 pub mod totals;

@@ -1,6 +1,6 @@
 // How many of each kind of thing the counts of a file promised so far.
 ghost use mathlib.Core.Path.{_≡_};
-ghost use Prim.Native.Nat.{_+_, _-_, _^_, _<_};
+ghost use Prim.Native.Nat.{_-_, _≤_};
 ghost use Rattle.reader.specs.Data.{limit};
 ghost use Rattle.reader.specs.Reading.{total, raised};
 
@@ -24,7 +24,7 @@ pub struct Totals {
 
 impl Totals {
     // How many more of a kind there may be.
-    pub fn room(self, kind: Kind) -> usize
+    pub(crate) fn room(self, kind: Kind) -> usize
         ensures { λ r. ⌜ r ≡ limit kind - total kind self ⌝ }
     {
         match kind {
@@ -36,8 +36,8 @@ impl Totals {
         }
     }
 
-    pub fn plus(self, kind: Kind, n: usize) -> Totals
-        requires { ⌜ total kind self + n < 2 ^ 64 ⌝ }
+    pub(crate) fn plus(self, kind: Kind, n: usize) -> Totals
+        requires { ⌜ n ≤ limit kind - total kind self ⌝ }
         ensures { λ r. ⌜ r ≡ raised kind n self ⌝ }
     {
         match kind {
