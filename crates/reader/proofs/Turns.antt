@@ -4,8 +4,19 @@ use mathlib.Core.List.{List, [], _∷_, _++_}
 use Prim.Native.Nat.{ℕ, zero, suc, _+_, _-_, _≤_, _<_}
 use native.Mathlib.Omega.{arith}
 use Rattle.std.proofs.shelf.Lists.{append-assoc, append-nil}
-use Rattle.reader.specs.Reading.{Reads, Spot, Read, got, fault, after, repeated}
+use Rattle.reader.specs.Reading.{Reads, Spot, Read, got, fault, after, repeated, destination}
+use Rattle.clif.specs.declared.refusals.Refusal.{Refusal}
 use Rattle.reader.specs.Parts.{several}
+use Rattle.reader.specs.Records.{destination-of, next-destination}
+use Rattle.reader.specs.Told.{spot, told}
+use Rattle.reader.specs.declared.fields.Fields.{Fields}
+use Rattle.reader.specs.declared.records.DestRecord.{DestRecord}
+use Rattle.std.specs.Options.{Cases}
+use Rattle.std.specs.Results.{okPart}
+use Rattle.std.specs.declared.option.Option.{Option}
+use Rattle.std.specs.declared.option.Option.the-variants.{Some, None}
+use Rattle.std.specs.declared.result.Result.{Result}
+use Rattle.std.specs.declared.result.Result.the-variants.{Ok, Err}
 
 -- nothing is done after a reading
 pub after-got : {A : Type 0} (r : Read A) → after r (λ a t. got a t) ≡ r
@@ -56,3 +67,14 @@ module _ {A : Type 0} (p : Reads A) (size : ℕ) where
       let d : n - k ≡ 0 = omega arith in
       let e : repeated n p size s ≡ got (w .front ++ []) t = w .left ∙ rw d in
       ap (λ xs. got xs t) (several-all n s t (w .front ++ []) e) ∙ sym e
+
+-- one destination more is handed out
+pub next-told : (n : ℕ) (x y : Fields) (r : Result DestRecord Refusal) → (n ≡ 0 → ⊥) → told destination-of r (spot y) ≡ destination (x .size) (spot x) → y .size ≡ x .size
+    → several n destination (x .size) (spot x) ≡ next-destination (okPart r) (record { left = n - 1; fields = y })
+next-told zero x y r h t e = absurd (h refl)
+next-told (suc m) x y (Ok d) h t e = let k : suc m - 1 ≡ m = omega arith in rw (k, ← t, several, e)
+next-told (suc m) x y (Err d) h t e = rw (← t, several)
+
+pub next-falls : (n : ℕ) (o : Option DestRecord) → (n ≡ 0 → ⊥) → Cases o (Unit {0}) (λ _. n - 1 < n)
+next-falls n None h = tt
+next-falls n (Some d) h = omega arith

@@ -6,3 +6,4 @@ pub mod Laws
 pub mod Parts
 pub mod Told
 pub mod Records
+pub mod Stream

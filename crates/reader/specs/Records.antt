@@ -9,6 +9,10 @@ use Rattle.reader.specs.Told.{spot}
 use Rattle.reader.specs.declared.records.DestRecord.{DestRecord}
 use Rattle.reader.specs.declared.records.Destinations.{Destinations}
 use Rattle.reader.specs.declared.records.InstRecord.{InstRecord}
+use Rattle.reader.specs.declared.records.BlockRecord.{BlockRecord}
+use Rattle.clif.specs.declared.types.«Type».{«Type» as Ty}
+use Rattle.std.specs.declared.option.Option.{Option}
+use Rattle.std.specs.declared.option.Option.the-variants.{Some, None}
 
 abbrev pub destination-of : DestRecord → Destination
 destination-of d = record { target = d .target; args = words-of (now (d .args)) }
@@ -16,6 +20,10 @@ destination-of d = record { target = d .target; args = words-of (now (d .args)) 
 -- the destinations still to be handed out
 abbrev pub destinations-of : Destinations → List Destination
 destinations-of d = several (d .left) destination (d .fields .size) (spot (d .fields))
+
+abbrev pub next-destination : Option DestRecord → Destinations → List Destination
+next-destination None d = []
+next-destination (Some x) d = destination-of x ∷ destinations-of d
 
 abbrev pub instruction-of : InstRecord → Instruction
 instruction-of x = record {
@@ -26,3 +34,6 @@ instruction-of x = record {
   destinations = destinations-of (x .destinations);
   flag = x .flag;
   location = x .location }
+
+abbrev pub heading-of : BlockRecord → List Ty × ℕ
+heading-of b = (types-of (now (b .params)), b .insts)

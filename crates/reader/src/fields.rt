@@ -4,7 +4,7 @@ ghost use mathlib.Core.Bool.{Bool};
 ghost use mathlib.Core.Path.{_≡_};
 ghost use Prim.Native.Nat.{ℕ, _≤_};
 ghost use Rattle.clif.specs.Rows.{opcode-of};
-ghost use Rattle.reader.specs.Reading.{number, ranged as ranged-field, named, flag-of, number-of, admitted};
+ghost use Rattle.reader.specs.Reading.{number, ranged as ranged-field, named, flag-of, number-of, admitted, count};
 ghost use Rattle.reader.specs.Reading.{place as place-of};
 ghost use Rattle.reader.specs.Told.{spot, told, Taken, Cut};
 ghost use Rattle.std.specs.Results.{Cases};
@@ -115,6 +115,17 @@ impl<'a> Fields<'a> {
             return Err(Refusal::OverLimit(at));
         }
         self.totals = self.totals.plus(kind, n);
+        Ok(n)
+    }
+
+    // A count of two bytes, at least 1.
+    pub(crate) fn counted(&mut self, kind: Kind) -> Result<u16, Refusal>
+        ensures told { λ r. ⌜ told (λ (n : ℕ). n) r (spot (now (self .exit))) ≡ count 2 1 kind (now (self .entry) .size) (spot (now (self .entry))) ⌝ }
+        ensures size { λ r. ⌜ now (self .exit) .size ≡ now (self .entry) .size ⌝ }
+    {
+        let at = self.place();
+        let n = self.word()?;
+        self.admit(at, n as usize, 1, kind)?;
         Ok(n)
     }
 }

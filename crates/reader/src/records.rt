@@ -6,13 +6,17 @@ ghost use mathlib.Core.List.{List, []};
 ghost use mathlib.Core.Path.{_≡_};
 ghost use Prim.Native.Nat.{ℕ, _/_, _%_, _<_};
 ghost use Rattle.reader.specs.Parts.{words-of, types-of};
-ghost use Rattle.reader.specs.Reading.{standing, present, number, named, flag-of, uses as uses-field, types as types-field, destination as destination-field, destinations as destinations-field, instruction as instruction-field, repeated};
-ghost use Rattle.reader.specs.Records.{destination-of, destinations-of, instruction-of};
+ghost use Rattle.reader.specs.Reading.{standing, present, number, named, flag-of, uses as uses-field, types as types-field, destination as destination-field, destinations as destinations-field, instruction as instruction-field, repeated, heading as heading-field, order-entry};
+ghost use Rattle.reader.specs.Records.{destination-of, destinations-of, next-destination, instruction-of, heading-of};
 ghost use Rattle.reader.specs.Told.{spot, told};
+ghost use Rattle.std.specs.Options.{Cases as BySome};
+ghost use Rattle.std.specs.Vec.{made};
 ghost use Rattle.std.specs.declared.option.Option.the-variants.{None};
 ghost use Rattle.std.specs.declared.option.Option.{Option};
 use crate::fields::Fields;
+use crate::totals::Kind;
 use clif::entities::Block;
+use clif::entities::Entry;
 use clif::opcodes::Opcode;
 use clif::refusals::Refusal;
 
@@ -41,6 +45,43 @@ pub struct InstRecord<'a> {
     pub destinations: Destinations<'a>,
     pub flag: Option<bool>,
     pub location: Option<u32>,
+}
+
+// A block up to its instructions: its parameters as bytes of types, and how many instructions follow.
+#[derive(Clone, Copy)]
+pub struct BlockRecord<'a> {
+    pub place: usize,
+    pub params: &'a [u8],
+    pub insts: u16,
+}
+
+// An entry of the order.
+#[derive(Clone, Copy)]
+pub struct OrderRecord {
+    pub place: usize,
+    pub entry: Entry,
+}
+
+// What the reader hands out.
+#[derive(Clone, Copy)]
+pub enum Record<'a> {
+    Block(BlockRecord<'a>),
+    Inst(InstRecord<'a>),
+    Order(OrderRecord),
+}
+
+impl<'a> Destinations<'a> {
+    // The next destination; none where all were handed out.
+    pub fn next(&mut self) -> Option<DestRecord<'a>>
+        ensures hands { λ r. ⌜ destinations-of (now (self .entry)) ≡ next-destination r (now (self .exit)) ⌝ }
+        ensures falls { λ r. ⌜ BySome r (Unit {0}) (λ _. now (self .exit) .left < now (self .entry) .left) ⌝ }
+    {
+        if self.left == 0 {
+            return None;
+        }
+        self.left -= 1;
+        self.fields.destination().ok()
+    }
 }
 
 // Whether a bit of a map byte stands.
@@ -133,5 +174,31 @@ impl<'a> Fields<'a> {
         let flag = self.notrap(map)?;
         let location = self.location(map)?;
         Ok(InstRecord { place, opcode, operands, immediate, results, destinations, flag, location })
+    }
+
+    pub(crate) fn heading(&mut self) -> Result<BlockRecord<'a>, Refusal>
+        ensures told { λ r. ⌜ told heading-of r (spot (now (self .exit))) ≡ heading-field (now (self .entry) .size) (spot (now (self .entry))) ⌝ }
+        ensures size { λ r. ⌜ now (self .exit) .size ≡ now (self .entry) .size ⌝ }
+        ensures few { λ r. ⌜ made r (λ b. b .insts < 65536) ⌝ }
+    {
+        let place = self.place();
+        let map = self.ranged(2, 3)?;
+        let params = self.type_list(map, 1)?;
+        let insts = self.counted(Kind::Insts)?;
+        Ok(BlockRecord { place, params, insts })
+    }
+
+    pub(crate) fn order_entry(&mut self) -> Result<OrderRecord, Refusal>
+        ensures told { λ r. ⌜ told (λ (o : OrderRecord). o .«entry») r (spot (now (self .exit))) ≡ order-entry (now (self .entry) .size) (spot (now (self .entry))) ⌝ }
+        ensures size { λ r. ⌜ now (self .exit) .size ≡ now (self .entry) .size ⌝ }
+    {
+        let place = self.place();
+        let map = self.ranged(1, 2)?;
+        let block = Block(self.word()?);
+        if map == 1 {
+            return Ok(OrderRecord { place, entry: Entry::Block(block) });
+        }
+        let index = self.byte()?;
+        Ok(OrderRecord { place, entry: Entry::Edge(block, index) })
     }
 }

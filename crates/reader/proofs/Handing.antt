@@ -1,0 +1,86 @@
+-- What is left of a file is the next record and then what is left.
+use mathlib.Core.Path.{_≡_, refl, sym, ap, _∙_}
+use mathlib.Core.Bool.{Bool, true, false, cond}
+use mathlib.Core.List.{List, [], _∷_, _++_}
+use Prim.Native.Nat.{ℕ, zero, suc, _+_, _-_, _*_, _≤_, _<_}
+use native.Mathlib.Omega.{arith}
+use denote.Ref.{now}
+use lib.Dec.{eqb}
+use lib.ListN.{length}
+use Rattle.clif.specs.declared.entities.Entry.{Entry}
+use Rattle.clif.specs.declared.types.«Type».{«Type» as Ty}
+use Rattle.reader.specs.Data.{Instruction, Body}
+use Rattle.reader.specs.Reading.{Reads, Spot, Read, got, fault, after, Outcome, done, refused, ended, repeated, instruction, heading, body, order-entry, count, func}
+use Rattle.reader.specs.Stream.{Tail, remaining, mapped-outcome, due-count, order-left, entries-due, nothing-left, func-of}
+use Rattle.reader.specs.declared.totals.Kind.the-variants.{Blocks}
+use Rattle.std.specs.declared.option.Option.{Option}
+use Rattle.std.specs.declared.option.Option.the-variants.{Some, None}
+
+pub after-assoc : {A B C : Type 0} (r : Read A) (k : A → Spot → Read B) (l : B → Spot → Read C) → after (after r k) l ≡ after r (λ a t. after (k a t) l)
+after-assoc (got a t) k l = refl
+after-assoc (fault n p) k l = refl
+
+end-cond : {A B : Type 0} (f : A → B) (b : Bool) (a : A) (n p : ℕ) → mapped-outcome f (cond b (done a) (refused n p)) ≡ cond b (done (f a)) (refused n p)
+end-cond f true a n p = refl
+end-cond f false a n p = refl
+
+pub map-ended : {A B : Type 0} (f : A → B) (size : ℕ) (r : Read A) → mapped-outcome f (ended size r) ≡ ended size (after r (λ a t. got (f a) t))
+map-ended f size (got a s) = end-cond f (eqb (length (s .rest)) 0) a 1 _
+map-ended f size (fault n p) = refl
+
+abbrev pub with-inst : Instruction → Tail → Tail
+with-inst a t = record { insts = a ∷ t .insts; blocks = t .blocks; order = t .order }
+
+abbrev pub with-block : List Ty → Tail → Tail
+with-block ps t = record { insts = []; blocks = record { params = ps; insts = t .insts } ∷ t .blocks; order = t .order }
+
+abbrev pub with-entry : Entry → Tail → Tail
+with-entry e t = record { insts = t .insts; blocks = t .blocks; order = e ∷ t .order }
+
+module _ (size : ℕ) (o : Option ℕ) (s : Spot) where
+  pub inst-next : (i b : ℕ) (t : Spot) (a : Instruction) → 0 < i → got a t ≡ instruction size s
+      → ended size (remaining i b o size s) ≡ mapped-outcome (with-inst a) (ended size (remaining (i - 1) b o size t))
+  inst-next zero b t a h e = absurd (omega arith)
+  inst-next (suc i) b t a h e = let k : suc i - 1 ≡ i = omega arith in rw (k, ← e) (simp (map-ended, after-assoc))
+
+  pub inst-wrong : (i b : ℕ) (n p : ℕ) → 0 < i → fault n p ≡ instruction size s → ended size (remaining i b o size s) ≡ refused n p
+  inst-wrong zero b n p h e = absurd (omega arith)
+  inst-wrong (suc i) b n p h e = rw (← e)
+
+  pub block-next : (i b : ℕ) (t : Spot) (ps : List Ty) (n : ℕ) → i ≡ 0 → 0 < b → got (ps, n) t ≡ heading size s
+      → ended size (remaining i b o size s) ≡ mapped-outcome (with-block ps) (ended size (remaining n (b - 1) o size t))
+  block-next i zero t ps n z h e = absurd (omega arith)
+  block-next i (suc b) t ps n z h e = let k : suc b - 1 ≡ b = omega arith in rw (z, k, ← e) (simp (map-ended, after-assoc))
+
+  pub block-wrong : (i b : ℕ) (n p : ℕ) → i ≡ 0 → 0 < b → fault n p ≡ heading size s → ended size (remaining i b o size s) ≡ refused n p
+  block-wrong i zero n p z h e = absurd (omega arith)
+  block-wrong i (suc b) n p z h e = rw (z, ← e)
+
+  -- behind the last block
+  module _ (i b : ℕ) (iz : i ≡ 0) (bz : b ≡ 0) where
+    pub count-wrong : (n p : ℕ) → fault n p ≡ due-count o size s → ended size (remaining i b o size s) ≡ refused n p
+    count-wrong n p e = rw (iz, bz, ← e)
+
+    pub entry-wrong : (m : ℕ) (t : Spot) (n p : ℕ) → (m ≡ 0 → ⊥) → got m t ≡ due-count o size s → fault n p ≡ order-entry size t → ended size (remaining i b o size s) ≡ refused n p
+    entry-wrong zero t n p h e f = absurd (h refl)
+    entry-wrong (suc m) t n p h e f = rw (iz, bz, ← e, ← f)
+
+    pub entry-next : (j d z m : ℕ) (t u : Spot) (x : Entry) → j ≡ 0 → d ≡ 0 → z ≡ size → (m ≡ 0 → ⊥) → got m t ≡ due-count o size s → got x u ≡ order-entry size t
+        → ended size (remaining i b o size s) ≡ mapped-outcome (with-entry x) (ended z (remaining j d (Some (m - 1)) z u))
+    entry-next j d z zero t u x jz dz zz h e f = absurd (h refl)
+    entry-next j d z (suc m) t u x jz dz zz h e f = let k : suc m - 1 ≡ m = omega arith in rw (iz, bz, jz, dz, zz, k, ← e, ← f) (simp (map-ended, after-assoc))
+
+    pub entry-last : (m : ℕ) (t : Spot) → m ≡ 0 → got m t ≡ due-count o size s → ended size (remaining i b o size s) ≡ ended size (got nothing-left t)
+    entry-last m t z e = rw (iz, bz, ← e, z)
+
+-- in front of the first block
+pub file-begins : (size z n : ℕ) (s t : Spot) → z ≡ size → got n t ≡ count 2 1 Blocks size s → ended size (func size s) ≡ mapped-outcome func-of (ended z (remaining 0 n None z t))
+file-begins size z n s t zz e = rw (zz, ← e) (simp (map-ended, after-assoc))
+
+pub file-wrong : (size : ℕ) (s : Spot) (n p : ℕ) → fault n p ≡ count 2 1 Blocks size s → ended size (func size s) ≡ refused n p
+file-wrong size s n p e = rw (← e)
+
+-- no more entries are due than before, or their count was read: then it fits a word
+pub entries-fall : (o : Option ℕ) (size m : ℕ) (s t : Spot) → m < 65536 → (m ≡ 0 → ⊥) → got m t ≡ due-count o size s → m - 1 < entries-due o
+entries-fall None size m s t h k e = omega arith
+entries-fall (Some n) size m s t h k e = let q : m ≡ n = cc in omega arith
