@@ -1,0 +1,89 @@
+-- How the tables are filled, record by record. What they come to is said by `store-of`, in Holding; these definitions are
+-- for the private functions that get there.
+use mathlib.Core.Bool.{Bool, true, false, cond, _&&_}
+use mathlib.Core.List.{List, [], _∷_, _++_, map}
+use Prim.Native.Nat.{ℕ, zero, suc, _+_, _-_, _*_}
+use lib.Dec.{ltb}
+use lib.ListN.{length, getD}
+use Rattle.clif.specs.declared.entities.Entry.{Entry}
+use Rattle.clif.specs.declared.entities.Entry.the-variants.{Block as to-block, Edge as to-edge}
+use Rattle.clif.specs.declared.entities.Value.{Value}
+use Rattle.clif.specs.declared.types.«Type».{«Type» as Ty}
+use Rattle.function.specs.Cells.{Cells, pushed, pushed-all, written}
+use Rattle.function.specs.Holding.{Store}
+use Rattle.function.specs.Numbering.{Numbers, uses-of, is-last, inst-number, defined, dest-places, block-row, inst-row, values-from}
+use Rattle.function.specs.declared.rows.ValueDef.the-variants.{Param, Result}
+use Rattle.reader.specs.Data.{Instruction, Body}
+use Rattle.reader.specs.Reading.{block-at}
+use Rattle.reader.specs.Stream.{Tail}
+use Rattle.std.specs.Options.{isSome}
+use Rattle.std.specs.declared.option.Option.{Option}
+use Rattle.std.specs.declared.option.Option.the-variants.{Some, None}
+
+-- how much is stored already
+abbrev pub numbers-now : Store → Numbers
+numbers-now s = record { insts = s .insts .len; values = s .values .len; uses = s .uses .len }
+
+abbrev pub store-block : List Ty → ℕ → Store → Store
+store-block params count s = record {
+  blocks = pushed 64 (Some (block-row (numbers-now s) params count)) (s .blocks);
+  insts = s .insts;
+  values = pushed-all 2048 (map Some (defined (Param (block-at (s .blocks .len))) 0 params)) (s .values);
+  numbers = pushed-all 2048 (values-from (s .values .len) (length params)) (s .numbers);
+  uses = s .uses;
+  destinations = s .destinations;
+  order = s .order;
+  block-entries = s .block-entries;
+  edge-entries = s .edge-entries }
+
+abbrev pub store-inst : Bool → Instruction → Store → Store
+store-inst last x s = record {
+  blocks = s .blocks;
+  insts = pushed 1024 (Some (inst-row (s .blocks .len - 1) last (numbers-now s) x)) (s .insts);
+  values = pushed-all 2048 (map Some (defined (Result (inst-number (s .insts .len))) 0 (x .results))) (s .values);
+  numbers = pushed-all 2048 (values-from (s .values .len) (length (x .results))) (s .numbers);
+  uses = pushed-all 4096 (uses-of x) (s .uses);
+  destinations = pushed-all 128 (dest-places last (numbers-now s) x) (s .destinations);
+  order = s .order;
+  block-entries = s .block-entries;
+  edge-entries = s .edge-entries }
+
+-- the entry is noted at a place where none is yet
+abbrev pub noted : ℕ → ℕ → Cells (Option ℕ) → Cells (Option ℕ)
+noted i e c = cond (isSome (getD (c .rows) i None)) c (written i (Some e) c)
+
+abbrev pub noted-block : Entry → ℕ → Cells (Option ℕ) → Cells (Option ℕ)
+noted-block (to-block b) e c = noted (b .0) e c
+noted-block (to-edge b k) e c = c
+
+abbrev pub noted-edge : Entry → ℕ → Cells (Option ℕ) → Cells (Option ℕ)
+noted-edge (to-block b) e c = c
+noted-edge (to-edge b k) e c = cond (ltb k 2) (noted (2 * b .0 + k) e c) c
+
+abbrev pub store-entry : Entry → Store → Store
+store-entry x s = record {
+  blocks = s .blocks;
+  insts = s .insts;
+  values = s .values;
+  numbers = s .numbers;
+  uses = s .uses;
+  destinations = s .destinations;
+  order = pushed 128 (Some x) (s .order);
+  block-entries = noted-block x (s .order .len) (s .block-entries);
+  edge-entries = noted-edge x (s .order .len) (s .edge-entries) }
+
+abbrev pub store-insts : List Instruction → Store → Store
+store-insts [] s = s
+store-insts (x ∷ xs) s = store-insts xs (store-inst (is-last xs) x s)
+
+abbrev pub store-blocks : List Body → Store → Store
+store-blocks [] s = s
+store-blocks (b ∷ bs) s = store-blocks bs (store-insts (b .insts) (store-block (b .params) (length (b .insts)) s))
+
+abbrev pub store-order : List Entry → Store → Store
+store-order [] s = s
+store-order (x ∷ xs) s = store-order xs (store-entry x s)
+
+-- all that is left of a file
+abbrev pub stored : Tail → Store → Store
+stored t s = store-order (t .order) (store-blocks (t .blocks) (store-insts (t .insts) s))

@@ -1,0 +1,4 @@
+pub mod Cells
+pub mod Numbering
+pub mod Holding
+pub mod Filling

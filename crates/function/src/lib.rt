@@ -1,0 +1,5 @@
+// The tables of a function, and the checked function with its answers.
+pub mod cells;
+pub mod rows;
+pub mod table;
+pub mod tables;
