@@ -11,10 +11,12 @@ use Rattle.clif.specs.declared.entities.Value.{Value}
 use Rattle.clif.specs.declared.types.«Type».{«Type» as Ty}
 use Rattle.function.specs.Cells.{Cells, pushed, pushed-all, written}
 use Rattle.function.specs.Holding.{Store}
-use Rattle.function.specs.Numbering.{Numbers, uses-of, is-last, inst-number, defined, dest-places, block-row, inst-row, values-from}
+use Rattle.function.specs.Numbering.{Numbers, uses-of, is-last, inst-number, defined, block-row, nth}
+use Rattle.function.specs.declared.rows.DestData.{DestData}
+use Rattle.function.specs.declared.rows.InstData.{InstData}
 use Rattle.function.specs.declared.rows.ValueDef.the-variants.{Param, Result}
-use Rattle.reader.specs.Data.{Instruction, Body}
-use Rattle.reader.specs.Reading.{block-at}
+use Rattle.reader.specs.Data.{Destination, Instruction, Body}
+use Rattle.reader.specs.Reading.{block-at, value-at}
 use Rattle.reader.specs.Stream.{Tail}
 use Rattle.std.specs.Options.{isSome}
 use Rattle.std.specs.declared.option.Option.{Option}
@@ -24,26 +26,57 @@ use Rattle.std.specs.declared.option.Option.the-variants.{Some, None}
 abbrev pub numbers-now : Store → Numbers
 numbers-now s = record { insts = s .insts .len; values = s .values .len; uses = s .uses .len }
 
+-- n more values, each with its number
+abbrev pub push-numbers : ℕ → Cells Value → Cells Value
+push-numbers zero c = c
+push-numbers (suc n) c = push-numbers n (pushed 2048 (value-at (c .len)) c)
+
+-- the rows of destinations, as their arguments are stored
+abbrev pub placed : List Destination → Cells Value → List DestData
+placed [] c = []
+placed (d ∷ ds) c = record { target = d .target; «first_arg» = c .len; args = length (d .args) } ∷ placed ds (pushed-all 4096 (d .args) c)
+
+-- the two places of a block's last instruction
+abbrev pub two-places : Bool → List DestData → List (Option DestData)
+two-places false ds = []
+two-places true ds = nth ds 0 ∷ nth ds 1 ∷ []
+
 abbrev pub store-block : List Ty → ℕ → Store → Store
 store-block params count s = record {
   blocks = pushed 64 (Some (block-row (numbers-now s) params count)) (s .blocks);
   insts = s .insts;
   values = pushed-all 2048 (map Some (defined (Param (block-at (s .blocks .len))) 0 params)) (s .values);
-  numbers = pushed-all 2048 (values-from (s .values .len) (length params)) (s .numbers);
+  numbers = push-numbers (length params) (s .numbers);
   uses = s .uses;
   destinations = s .destinations;
   order = s .order;
   block-entries = s .block-entries;
   edge-entries = s .edge-entries }
 
+-- an instruction's row, with the uses that were stored for it
+abbrev pub row-now : Bool → Instruction → Store → InstData
+row-now last x s = record {
+  block = block-at (s .blocks .len - 1);
+  last = last;
+  opcode = x .opcode;
+  «first_use» = s .uses .len;
+  operands = length (x .operands);
+  uses = pushed-all 4096 (uses-of x) (s .uses) .len - s .uses .len;
+  «first_result» = s .values .len;
+  results = length (x .results);
+  destinations = length (x .destinations);
+  immediate = x .immediate;
+  flag = x .flag;
+  location = x .location }
+
 abbrev pub store-inst : Bool → Instruction → Store → Store
 store-inst last x s = record {
   blocks = s .blocks;
-  insts = pushed 1024 (Some (inst-row (s .blocks .len - 1) last (numbers-now s) x)) (s .insts);
+  insts = pushed 1024 (Some (row-now last x s)) (s .insts);
   values = pushed-all 2048 (map Some (defined (Result (inst-number (s .insts .len))) 0 (x .results))) (s .values);
-  numbers = pushed-all 2048 (values-from (s .values .len) (length (x .results))) (s .numbers);
+  numbers = push-numbers (length (x .results)) (s .numbers);
   uses = pushed-all 4096 (uses-of x) (s .uses);
-  destinations = pushed-all 128 (dest-places last (numbers-now s) x) (s .destinations);
+  destinations = pushed-all 128 (two-places last (placed (x .destinations) (pushed-all 4096 (x .operands) (s .uses)))) (s .destinations);
   order = s .order;
   block-entries = s .block-entries;
   edge-entries = s .edge-entries }

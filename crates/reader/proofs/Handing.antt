@@ -10,8 +10,11 @@ use lib.ListN.{length}
 use Rattle.clif.specs.declared.entities.Entry.{Entry}
 use Rattle.clif.specs.declared.types.«Type».{«Type» as Ty}
 use Rattle.reader.specs.Data.{Instruction, Body}
-use Rattle.reader.specs.Reading.{Reads, Spot, Read, got, fault, after, Outcome, done, refused, ended, repeated, instruction, heading, body, order-entry, count, func}
-use Rattle.reader.specs.Stream.{Tail, remaining, mapped-outcome, due-count, order-left, entries-due, nothing-left, func-of}
+use Rattle.reader.specs.Reading.{Reads, Spot, Read, got, fault, after, place, Outcome, done, refused, ended, repeated, instruction, heading, body, order-entry, count, func}
+use Rattle.reader.proofs.Turns.{after-back, repeated-length}
+use Rattle.reader.specs.Told.{spot}
+use Rattle.reader.specs.declared.reader.Reader.{Reader}
+use Rattle.reader.specs.Stream.{left, Tail, remaining, mapped-outcome, due-count, order-left, entries-due, nothing-left, func-of}
 use Rattle.reader.specs.declared.totals.Kind.the-variants.{Blocks}
 use Rattle.std.specs.declared.option.Option.{Option}
 use Rattle.std.specs.declared.option.Option.the-variants.{Some, None}
@@ -84,3 +87,23 @@ file-wrong size s n p e = rw (← e)
 pub entries-fall : (o : Option ℕ) (size m : ℕ) (s t : Spot) → m < 65536 → (m ≡ 0 → ⊥) → got m t ≡ due-count o size s → m - 1 < entries-due o
 entries-fall None size m s t h k e = omega arith
 entries-fall (Some n) size m s t h k e = let q : m ≡ n = cc in omega arith
+
+pub ended-back : {A : Type 0} (size : ℕ) (r : Read A) (a : A) → ended size r ≡ done a → (s : Spot) × (r ≡ got a s)
+ended-back size (got x s) a e = go (eqb (length (s .rest)) 0) e
+  where
+    go : (b : Bool) → cond b (done x) (refused 1 (place size s)) ≡ done a → (t : Spot) × (got x s ≡ got a t)
+    go true f = (s, cc)
+    go false f = absurd (let z : _≡_ {A = ℕ} 0 1 = cc in omega arith)
+ended-back size (fault n p) a e = absurd (let z : _≡_ {A = ℕ} 0 1 = cc in omega arith)
+
+-- as many instructions come as the reader still has for the block at hand
+pub left-length : (x : Reader) (t : Tail) → left x ≡ done t → length (t .insts) ≡ x .insts
+left-length x t e =
+    let size = x .fields .size in
+    let g = ended-back size (remaining (x .insts) (x .blocks) (x .entries) size (spot (x .fields))) t e in
+    let a = after-back (repeated (x .insts) instruction size (spot (x .fields))) _ t (g .0) (g .1) in
+    let b = after-back (repeated (x .blocks) body size (a .1)) _ t (g .0) (a .3) in
+    let d = after-back (order-left (x .entries) size (b .1)) _ t (g .0) (b .3) in
+    let h = repeated-length instruction size (x .insts) (spot (x .fields)) (a .1) (a .0) (a .2) in
+    let z : t .insts ≡ a .0 = ap (λ u. u .insts) (let y : t ≡ record { insts = a .0; blocks = b .0; order = d .0 } = cc in y) in
+    rw (z, h)

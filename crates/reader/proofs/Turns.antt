@@ -3,6 +3,7 @@ use mathlib.Core.Path.{_≡_, refl, sym, ap, _∙_}
 use mathlib.Core.List.{List, [], _∷_, _++_}
 use Prim.Native.Nat.{ℕ, zero, suc, _+_, _-_, _≤_, _<_}
 use native.Mathlib.Omega.{arith}
+use lib.ListN.{length}
 use Rattle.std.proofs.shelf.Lists.{append-assoc, append-nil}
 use Rattle.reader.specs.Reading.{Reads, Spot, Read, got, fault, after, repeated, destination}
 use Rattle.clif.specs.declared.refusals.Refusal.{Refusal}
@@ -78,3 +79,16 @@ next-told (suc m) x y (Err d) h t e = rw (← t, several)
 pub next-falls : (n : ℕ) (o : Option DestRecord) → (n ≡ 0 → ⊥) → Cases o (Unit {0}) (λ _. n - 1 < n)
 next-falls n None h = tt
 next-falls n (Some d) h = omega arith
+
+-- what a reading that went through went through
+pub after-back : {A B : Type 0} (r : Read A) (k : A → Spot → Read B) (b : B) (t : Spot) → after r k ≡ got b t → (a : A) × (u : Spot) × (r ≡ got a u) × (k a u ≡ got b t)
+after-back (got a u) k b t e = (a, u, refl, e)
+after-back (fault n q) k b t e = absurd (let z : _≡_ {A = ℕ} 0 1 = cc in omega arith)
+
+pub repeated-length : {A : Type 0} (p : Reads A) (size n : ℕ) (s t : Spot) (xs : List A) → repeated n p size s ≡ got xs t → length xs ≡ n
+repeated-length p size zero s t xs e = let z : xs ≡ [] = cc in rw z
+repeated-length p size (suc n) s t xs e =
+    let a = after-back (p size s) _ xs t e in
+    let b = after-back (repeated n p size (a .1)) _ xs t (a .3) in
+    let h = repeated-length p size n (a .1) (b .1) (b .0) (b .2) in
+    let z : xs ≡ a .0 ∷ b .0 = cc in rw (z, h)

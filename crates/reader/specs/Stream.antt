@@ -86,3 +86,10 @@ pub record Same-but-fields (x y : Reader) : Type 0 where
   pub insts : y .insts ≡ x .insts
   pub blocks : y .blocks ≡ x .blocks
   pub entries : y .entries ≡ x .entries
+
+-- after a block's record, its instructions are due
+abbrev pub Counts : Option Record → Reader → Type 0
+Counts None y = Unit {0}
+Counts (Some (Block b)) y = y .insts ≡ b .insts
+Counts (Some (Inst x)) y = Unit {0}
+Counts (Some (Order o)) y = Unit {0}

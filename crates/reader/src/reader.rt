@@ -1,9 +1,10 @@
 // The reader: hands out the records of a file one by one.
+ghost use lib.Dec.{eqb};
 ghost use mathlib.Core.Path.{_≡_};
 ghost use Prim.Native.Nat.{ℕ, _<_};
 ghost use Rattle.reader.specs.Laws.{Format-law};
 ghost use Rattle.reader.specs.Reading.{Bytes, read, ended, got};
-ghost use Rattle.reader.specs.Stream.{begun, left, handed, nothing-left, due, due-count, Same-but-fields};
+ghost use Rattle.reader.specs.Stream.{begun, left, handed, nothing-left, due, due-count, Same-but-fields, Counts};
 ghost use Rattle.reader.specs.Told.{spot, told};
 ghost use Rattle.std.specs.Options.{Cases as BySome};
 ghost use Rattle.std.specs.Vec.{made};
@@ -47,6 +48,7 @@ impl<'a> Reader<'a> {
         requires { ⌜ 0 < now self .insts ⌝ }
         ensures hands { λ r. ⌜ left (now (self .entry)) ≡ handed r (left (now (self .exit))) ⌝ }
         ensures falls { λ r. ⌜ made r (λ o. BySome o (Unit {0}) (λ _. due (now (self .exit)) < due (now (self .entry)))) ⌝ }
+        ensures counts { λ r. ⌜ made r (λ o. Counts o (now (self .exit))) ⌝ }
     {
         let inst = self.fields.instruction()?;
         self.insts -= 1;
@@ -57,6 +59,7 @@ impl<'a> Reader<'a> {
         requires { ⌜ now self .insts ≡ 0 ⌝ ∗ ⌜ 0 < now self .blocks ⌝ }
         ensures hands { λ r. ⌜ left (now (self .entry)) ≡ handed r (left (now (self .exit))) ⌝ }
         ensures falls { λ r. ⌜ made r (λ o. BySome o (Unit {0}) (λ _. due (now (self .exit)) < due (now (self .entry)))) ⌝ }
+        ensures counts { λ r. ⌜ made r (λ o. Counts o (now (self .exit))) ⌝ }
     {
         let block = self.fields.heading()?;
         self.blocks -= 1;
@@ -79,6 +82,7 @@ impl<'a> Reader<'a> {
         requires { ⌜ now self .insts ≡ 0 ⌝ ∗ ⌜ now self .blocks ≡ 0 ⌝ }
         ensures hands { λ r. ⌜ left (now (self .entry)) ≡ handed r (left (now (self .exit))) ⌝ }
         ensures falls { λ r. ⌜ made r (λ o. BySome o (Unit {0}) (λ _. due (now (self .exit)) < due (now (self .entry)))) ⌝ }
+        ensures counts { λ r. ⌜ made r (λ o. Counts o (now (self .exit))) ⌝ }
     {
         let count = self.entries_due()?;
         if count == 0 {
@@ -93,6 +97,7 @@ impl<'a> Reader<'a> {
     fn finish(&mut self) -> Result<Option<Record<'a>>, Refusal>
         ensures hands { λ r. ⌜ ended (now (self .entry) .fields .size) (got nothing-left (spot (now (self .entry) .fields))) ≡ handed r (left (now (self .exit))) ⌝ }
         ensures falls { λ r. ⌜ made r (λ o. BySome o (Unit {0}) (λ _. due (now (self .exit)) < due (now (self .entry)))) ⌝ }
+        ensures counts { λ r. ⌜ made r (λ o. Counts o (now (self .exit))) ⌝ }
     {
         if self.fields.rest.is_empty() { Ok(None) } else { Err(Refusal::Unreadable(self.fields.place())) }
     }
@@ -101,6 +106,7 @@ impl<'a> Reader<'a> {
     pub fn next(&mut self) -> Result<Option<Record<'a>>, Refusal>
         ensures hands { λ r. ⌜ left (now (self .entry)) ≡ handed r (left (now (self .exit))) ⌝ }
         ensures falls { λ r. ⌜ made r (λ o. BySome o (Unit {0}) (λ _. due (now (self .exit)) < due (now (self .entry)))) ⌝ }
+        ensures counts { λ r. ⌜ made r (λ o. Counts o (now (self .exit))) ⌝ }
     {
         if self.insts > 0 {
             return self.next_inst();
@@ -109,5 +115,12 @@ impl<'a> Reader<'a> {
             return self.next_block();
         }
         self.next_entry()
+    }
+
+    // Whether no further instruction of the block at hand comes.
+    pub fn at_block_end(&self) -> bool
+        ensures { λ r. ⌜ r ≡ eqb (now (self .entry) .insts) 0 ⌝ }
+    {
+        self.insts == 0
     }
 }
