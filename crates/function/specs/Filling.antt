@@ -2,8 +2,9 @@
 -- for the private functions that get there.
 use mathlib.Core.Bool.{Bool, true, false, cond, _&&_}
 use mathlib.Core.List.{List, [], _∷_, _++_, map}
+use mathlib.Core.Path.{_≡_}
 use Prim.Native.Nat.{ℕ, zero, suc, _+_, _-_, _*_}
-use lib.Dec.{ltb}
+use lib.Dec.{eqb, ltb}
 use lib.ListN.{length, getD}
 use Rattle.clif.specs.declared.entities.Entry.{Entry}
 use Rattle.clif.specs.declared.entities.Entry.the-variants.{Block as to-block, Edge as to-edge}
@@ -12,8 +13,10 @@ use Rattle.clif.specs.declared.types.«Type».{«Type» as Ty}
 use Rattle.function.specs.Cells.{Cells, pushed, pushed-all, written}
 use Rattle.function.specs.Holding.{Store}
 use Rattle.function.specs.Numbering.{Numbers, uses-of, is-last, inst-number, defined, block-row, nth}
+use Rattle.function.specs.declared.fill.Kept.{Kept}
 use Rattle.function.specs.declared.rows.DestData.{DestData}
 use Rattle.function.specs.declared.rows.InstData.{InstData}
+use Rattle.function.specs.declared.rows.ValueDef.{ValueDef}
 use Rattle.function.specs.declared.rows.ValueDef.the-variants.{Param, Result}
 use Rattle.reader.specs.Data.{Destination, Instruction, Body}
 use Rattle.reader.specs.Reading.{block-at, value-at}
@@ -37,9 +40,12 @@ placed [] c = []
 placed (d ∷ ds) c = record { target = d .target; «first_arg» = c .len; args = length (d .args) } ∷ placed ds (pushed-all 4096 (d .args) c)
 
 -- the two places of a block's last instruction
+abbrev pub two-of : {X : Type 0} → Bool → X → X → List X
+two-of false a b = []
+two-of true a b = a ∷ b ∷ []
+
 abbrev pub two-places : Bool → List DestData → List (Option DestData)
-two-places false ds = []
-two-places true ds = nth ds 0 ∷ nth ds 1 ∷ []
+two-places last ds = two-of last (nth ds 0) (nth ds 1)
 
 abbrev pub store-block : List Ty → ℕ → Store → Store
 store-block params count s = record {
@@ -120,3 +126,20 @@ store-order (x ∷ xs) s = store-order xs (store-entry x s)
 -- all that is left of a file
 abbrev pub stored : Tail → Store → Store
 stored t s = store-order (t .order) (store-blocks (t .blocks) (store-insts (t .insts) s))
+
+-- a definition at another index
+abbrev pub at-index : ValueDef → ℕ → ValueDef
+at-index (Param b j) k = Param b k
+at-index (Result i j) k = Result i k
+
+-- what is kept of a list of destination rows: how many they are, and the first two
+pub record Kept-of (k : Kept) (ds : List DestData) : Type 0 where
+  pub count : k .count ≡ length ds
+  pub first : k .first ≡ nth ds 0
+  pub second : k .second ≡ nth ds 1
+
+abbrev pub kept-more : Kept → DestData → Kept
+kept-more k d = record {
+  count = k .count + 1;
+  first = cond (eqb (k .count) 0) (Some d) (k .first);
+  second = cond (eqb (k .count) 1) (Some d) (k .second) }

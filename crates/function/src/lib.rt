@@ -1,5 +1,6 @@
 // The tables of a function, and the checked function with its answers.
 pub mod cells;
+pub mod fill;
 pub mod rows;
 pub mod table;
 pub mod tables;
