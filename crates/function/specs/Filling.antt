@@ -18,9 +18,18 @@ use Rattle.function.specs.declared.rows.DestData.{DestData}
 use Rattle.function.specs.declared.rows.InstData.{InstData}
 use Rattle.function.specs.declared.rows.ValueDef.{ValueDef}
 use Rattle.function.specs.declared.rows.ValueDef.the-variants.{Param, Result}
-use Rattle.reader.specs.Data.{Destination, Instruction, Body}
-use Rattle.reader.specs.Reading.{block-at, value-at}
-use Rattle.reader.specs.Stream.{Tail}
+use Rattle.reader.specs.Data.{Destination, Instruction, Body, Func}
+use Rattle.clif.specs.Refusals.{refusal-number, refusal-place}
+use Rattle.clif.specs.declared.refusals.Refusal.{Refusal}
+use Rattle.reader.specs.Reading.{block-at, value-at, Outcome, done, refused, read}
+use denote.Ref.{now}
+use Rattle.reader.specs.Parts.{types-of}
+use Rattle.reader.specs.Records.{instruction-of}
+use Rattle.reader.specs.declared.records.Record.{Record}
+use Rattle.reader.specs.declared.records.Record.the-variants.{Block as to-body, Inst as to-inst, Order as to-order}
+use Rattle.reader.specs.Stream.{Tail, mapped-outcome}
+use Rattle.std.specs.declared.result.Result.{Result as Answer}
+use Rattle.std.specs.declared.result.Result.the-variants.{Ok, Err}
 use Rattle.std.specs.Options.{isSome}
 use Rattle.std.specs.declared.option.Option.{Option}
 use Rattle.std.specs.declared.option.Option.the-variants.{Some, None}
@@ -143,3 +152,21 @@ kept-more k d = record {
   count = k .count + 1;
   first = cond (eqb (k .count) 0) (Some d) (k .first);
   second = cond (eqb (k .count) 1) (Some d) (k .second) }
+
+-- a whole function is left
+abbrev pub tail-of : Func → Tail
+tail-of f = record { insts = []; blocks = f .blocks; order = f .order }
+
+-- what storing a file comes to, and what an answer says of that
+abbrev pub stored-file : List ℕ → Store → Outcome Store
+stored-file file s = mapped-outcome (λ f. stored (tail-of f) s) (read file)
+
+abbrev pub answered : Answer (Unit {0}) Refusal → Store → Outcome Store
+answered (Ok _) s = done s
+answered (Err e) s = refused (refusal-number e) (refusal-place e)
+
+-- one record stored
+abbrev pub store-record : Record → Bool → Store → Store
+store-record (to-body b) last s = store-block (types-of (now (b .params))) (b .insts) s
+store-record (to-inst x) last s = store-inst last (instruction-of x) s
+store-record (to-order o) last s = store-entry (o .«entry») s

@@ -16,7 +16,12 @@ use Rattle.function.specs.declared.rows.InstData.{InstData}
 use Rattle.function.specs.declared.rows.ValueData.{ValueData}
 use Rattle.function.specs.declared.tables.Tables.{Tables}
 use Rattle.reader.specs.Data.{Func}
-use Rattle.reader.specs.Reading.{value-at, block-at}
+use Rattle.clif.specs.Refusals.{refusal-number, refusal-place}
+use Rattle.clif.specs.declared.refusals.Refusal.{Refusal}
+use Rattle.reader.specs.Reading.{value-at, block-at, done, refused, read}
+use Rattle.reader.specs.Within.{Within}
+use Rattle.std.specs.declared.result.Result.{Result}
+use Rattle.std.specs.declared.result.Result.the-variants.{Ok, Err}
 use Rattle.std.specs.declared.option.Option.{Option}
 use Rattle.std.specs.declared.option.Option.the-variants.{Some, None}
 
@@ -97,3 +102,8 @@ zero-store = record {
 
 abbrev pub Holds : Tables → Func → Type 0
 Holds t f = view t ≡ store-of f
+
+-- what reading a file into the tables gives: the function that the file is, or its first fault and zero tables
+abbrev pub Filled : List ℕ → Result (Unit {0}) Refusal → Tables → Type 0
+Filled file (Ok _) t = (f : Func) × (read file ≡ done f) × Within f × Holds t f
+Filled file (Err e) t = (read file ≡ refused (refusal-number e) (refusal-place e)) × (view t ≡ zero-store)

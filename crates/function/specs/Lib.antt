@@ -2,3 +2,4 @@ pub mod Cells
 pub mod Numbering
 pub mod Holding
 pub mod Filling
+pub mod Answers

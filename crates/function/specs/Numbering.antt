@@ -117,7 +117,7 @@ all-uses f = over-blocks (λ b n x. over-insts (λ last m i. uses-of i) (past-pa
 abbrev pub all-destinations : Func → List (Option DestData)
 all-destinations f = over-blocks (λ b n x. over-insts dest-places (past-params x n) (x .insts)) 0 none-before (f .blocks)
 
--- the first n values
+-- n values from v on
 abbrev pub values-from : ℕ → ℕ → List Value
 values-from v zero = []
 values-from v (suc n) = value-at v ∷ values-from (suc v) n

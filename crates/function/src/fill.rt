@@ -5,8 +5,8 @@ ghost use mathlib.Core.List.{List, _++_, map};
 ghost use mathlib.Core.Path.{_≡_};
 ghost use Prim.Native.Nat.{ℕ, _+_, _^_, _<_};
 ghost use Rattle.function.specs.Cells.{cells, pushed-all};
-ghost use Rattle.function.specs.Filling.{at-index, push-numbers, placed, kept-more, Kept-of, store-block, store-inst, two-of};
-ghost use Rattle.function.specs.Holding.{view};
+ghost use Rattle.function.specs.Filling.{at-index, push-numbers, placed, kept-more, Kept-of, store-block, store-inst, store-entry, two-of, noted, noted-block, noted-edge};
+ghost use Rattle.function.specs.Holding.{view, zero-store};
 ghost use Rattle.function.specs.Numbering.{defined, nth};
 ghost use Rattle.reader.specs.Parts.{words-of, types-of};
 ghost use Rattle.reader.specs.Records.{destinations-of, instruction-of};
@@ -20,6 +20,7 @@ use crate::rows::InstData;
 use crate::table::Table;
 use crate::tables::Tables;
 use clif::entities::Block;
+use clif::entities::Entry;
 use clif::entities::Inst;
 use clif::entities::Value;
 use clif::types::Type;
@@ -129,8 +130,35 @@ fn push_places(places: &mut Table<Option<DestData>, 128>, last: bool, first: Opt
     }
 }
 
+// Notes an entry at a place that has none yet.
+fn note<const N: usize>(entries: &mut Table<Option<usize>, N>, i: usize, e: usize)
+    ensures { λ _. ⌜ cells (now (entries .exit)) ≡ noted i e (cells (now (entries .entry))) ⌝ }
+{
+    if entries.read(i, None).is_none() {
+        entries.write(i, Some(e));
+    }
+}
+
+fn note_block(entries: &mut Table<Option<usize>, 64>, x: Entry, e: usize)
+    ensures { λ _. ⌜ cells (now (entries .exit)) ≡ noted-block x e (cells (now (entries .entry))) ⌝ }
+{
+    if let Entry::Block(b) = x {
+        note(entries, b.index(), e);
+    }
+}
+
+fn note_edge(entries: &mut Table<Option<usize>, 128>, x: Entry, e: usize)
+    ensures { λ _. ⌜ cells (now (entries .exit)) ≡ noted-edge x e (cells (now (entries .entry))) ⌝ }
+{
+    if let Entry::Edge(b, k) = x {
+        if k < 2 {
+            note(entries, 2 * b.index() + k as usize, e);
+        }
+    }
+}
+
 impl Tables {
-    fn store_block(&mut self, b: BlockRecord)
+    pub(crate) fn store_block(&mut self, b: BlockRecord)
         ensures { λ _. ⌜ view (now (self .exit)) ≡ store-block (types-of (now (b .entry .params))) (b .entry .insts) (view (now (self .entry))) ⌝ }
     {
         let block = Block(self.blocks.len() as u16);
@@ -141,7 +169,7 @@ impl Tables {
         self.blocks.push(Some(BlockData { first_param, params, first_inst, insts: b.insts as usize }));
     }
 
-    fn store_inst(&mut self, x: InstRecord, last: bool)
+    pub(crate) fn store_inst(&mut self, x: InstRecord, last: bool)
         ensures { λ _. ⌜ view (now (self .exit)) ≡ store-inst last (instruction-of (x .entry)) (view (now (self .entry))) ⌝ }
     {
         let block = Block(self.blocks.len().saturating_sub(1) as u16);
@@ -166,5 +194,46 @@ impl Tables {
             flag: x.flag,
             location: x.location,
         }));
+    }
+
+    pub(crate) fn store_entry(&mut self, x: Entry)
+        ensures { λ _. ⌜ view (now (self .exit)) ≡ store-entry x (view (now (self .entry))) ⌝ }
+    {
+        let e = self.order.len();
+        note_block(&mut self.block_entries, x, e);
+        note_edge(&mut self.edge_entries, x, e);
+        self.order.push(Some(x));
+    }
+
+    // Tables of nothing.
+    pub fn new() -> Tables
+        ensures { λ r. ⌜ view r ≡ zero-store ⌝ }
+    {
+        Tables {
+            blocks: Table::new(None),
+            insts: Table::new(None),
+            values: Table::new(None),
+            numbers: Table::new(Value(0)),
+            uses: Table::new(Value(0)),
+            destinations: Table::new(None),
+            order: Table::new(None),
+            block_entries: Table::new(None),
+            edge_entries: Table::new(None),
+        }
+    }
+
+    // Makes every table zero.
+    pub fn clear(&mut self)
+        ensures { λ _. ⌜ view (now (self .exit)) ≡ zero-store ⌝ }
+    {
+        self.blocks = Table::new(None);
+        self.insts = Table::new(None);
+        self.values = Table::new(None);
+        self.numbers = Table::new(Value(0));
+        self.uses = Table::new(Value(0));
+        self.destinations = Table::new(None);
+        self.order = Table::new(None);
+        self.block_entries = Table::new(None);
+        self.edge_entries = Table::new(None);
     }
 }

@@ -1,6 +1,9 @@
 // The tables of a function, and the checked function with its answers.
+pub mod answers;
 pub mod cells;
 pub mod fill;
+pub mod function;
+pub mod load;
 pub mod rows;
 pub mod table;
 pub mod tables;

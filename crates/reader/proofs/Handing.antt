@@ -96,14 +96,14 @@ ended-back size (got x s) a e = go (eqb (length (s .rest)) 0) e
     go false f = absurd (let z : _≡_ {A = ℕ} 0 1 = cc in omega arith)
 ended-back size (fault n p) a e = absurd (let z : _≡_ {A = ℕ} 0 1 = cc in omega arith)
 
--- as many instructions come as the reader still has for the block at hand
-pub left-length : (x : Reader) (t : Tail) → left x ≡ done t → length (t .insts) ≡ x .insts
+-- as many instructions come as the reader still has for the block at hand, and as many blocks
+pub left-length : (x : Reader) (t : Tail) → left x ≡ done t → (length (t .insts) ≡ x .insts) × (length (t .blocks) ≡ x .blocks)
 left-length x t e =
     let size = x .fields .size in
     let g = ended-back size (remaining (x .insts) (x .blocks) (x .entries) size (spot (x .fields))) t e in
     let a = after-back (repeated (x .insts) instruction size (spot (x .fields))) _ t (g .0) (g .1) in
     let b = after-back (repeated (x .blocks) body size (a .1)) _ t (g .0) (a .3) in
     let d = after-back (order-left (x .entries) size (b .1)) _ t (g .0) (b .3) in
-    let h = repeated-length instruction size (x .insts) (spot (x .fields)) (a .1) (a .0) (a .2) in
-    let z : t .insts ≡ a .0 = ap (λ u. u .insts) (let y : t ≡ record { insts = a .0; blocks = b .0; order = d .0 } = cc in y) in
-    rw (z, h)
+    let y : t ≡ record { insts = a .0; blocks = b .0; order = d .0 } = cc in
+    (ap (λ u. length (u .insts)) y ∙ repeated-length instruction size (x .insts) (spot (x .fields)) (a .1) (a .0) (a .2),
+     ap (λ u. length (u .blocks)) y ∙ repeated-length body size (x .blocks) (a .1) (b .1) (b .0) (b .2))

@@ -87,9 +87,9 @@ pub record Same-but-fields (x y : Reader) : Type 0 where
   pub blocks : y .blocks ≡ x .blocks
   pub entries : y .entries ≡ x .entries
 
--- after a block's record, its instructions are due
+-- after a block's record its instructions are due, and after an entry of the order nothing but entries
 abbrev pub Counts : Option Record → Reader → Type 0
 Counts None y = Unit {0}
 Counts (Some (Block b)) y = y .insts ≡ b .insts
 Counts (Some (Inst x)) y = Unit {0}
-Counts (Some (Order o)) y = Unit {0}
+Counts (Some (Order o)) y = (y .insts ≡ 0) × (y .blocks ≡ 0)

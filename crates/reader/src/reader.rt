@@ -36,6 +36,7 @@ impl<'a> Reader<'a> {
     pub fn new(file: &'a [u8]) -> Result<Reader<'a>, Refusal>
         ensures begins { λ r. ⌜ read (now (file .entry)) ≡ begun r ⌝ }
         ensures law { λ _. ⌜ Format-law (now (file .entry)) ⌝ }
+        ensures fresh { λ r. ⌜ made r (λ x. x .insts ≡ 0) ⌝ }
     {
         witness(file);
         let none = Totals { blocks: 0, insts: 0, values: 0, operands: 0, entries: 0 };

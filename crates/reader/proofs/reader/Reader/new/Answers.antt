@@ -11,7 +11,7 @@ pub returns-in-Break-blocks : need.returns-in-Break-blocks
 returns-in-Break-blocks c =
     let file = c .args .file .now in
     let p = err-from-errBy (c .from-residual .result) (c .from-residual .ensures .1) in
-    rw (p .1, p .2) (record { begins = file-wrong (length file) (start file) _ _ (c .in-Break-blocks .ensures tt .told); law = format-law file (c .witness .ensures) })
+    rw (p .1, p .2) (record { begins = file-wrong (length file) (start file) _ _ (c .in-Break-blocks .ensures tt .told); law = format-law file (c .witness .ensures); fresh = tt })
 
 pub returns : need.returns
 returns c =
@@ -19,4 +19,4 @@ returns c =
     let y = c .counted .last .self in
     record {
       begins = file-begins (length file) (y .size) (c .in-Continue-blocks .«blocks») (start file) (spot y) (c .counted .ensures .size) (c .in-Continue-blocks .ensures tt .told);
-      law = format-law file (c .witness .ensures) }
+      law = format-law file (c .witness .ensures); fresh = refl }

@@ -32,4 +32,4 @@ returns c =
         (same .insts ∙ c .pre .0) (same .blocks ∙ c .pre .1) (c .order-entry .ensures .size ∙ same .size) (c .if-count-eq0 .left)
         (c .in-Continue-count .ensures tt .told) (c .in-Continue-order .ensures tt .told ∙ at);
       falls = let f = entries-fall (x .entries) (x .fields .size) (c .in-Continue-count .count) (spot (x .fields)) (spot (y .fields)) (omega arith) (c .if-count-eq0 .left) (c .in-Continue-count .ensures tt .told) in
-        omega (arith, same .insts, same .blocks, c .pre .0, c .pre .1); counts = tt }
+        omega (arith, same .insts, same .blocks, c .pre .0, c .pre .1); counts = (same .insts ∙ c .pre .0, same .blocks ∙ c .pre .1) }
