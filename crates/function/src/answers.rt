@@ -1,11 +1,11 @@
 // The questions that a function answers. What does not exist is None, an empty slice or 0.
 ghost use lib.ListN.{length, getD};
 ghost use mathlib.Core.Path.{_≡_};
-ghost use Prim.Native.Nat.{ℕ};
+ghost use Prim.Native.Nat.{ℕ, _≤_};
 ghost use Rattle.function.specs.Answers.{Shows, list-in, option-in, number-in, inst-of, all-insts, params-of, results-of, first-of, end-of, block-of, last-of, destination-of-block, call-of, type-of-value, def-of-value, entry-of-block, entry-of-edge};
 ghost use Rattle.function.specs.Numbering.{uses-of, nth, value-rows};
 ghost use Rattle.reader.specs.Data.{Func};
-ghost use Rattle.std.specs.Options.{mapped, Cases as BySome};
+ghost use Rattle.std.specs.Options.{mapped};
 ghost use Rattle.std.specs.declared.option.Option.the-variants.{None};
 use crate::function::BlockCall;
 use crate::function::Function;
@@ -21,11 +21,11 @@ use clif::opcodes::Opcode;
 use clif::types::Type;
 
 impl Tables {
-    // The function that the tables hold; none where they are zero.
-    pub fn function(&self) -> Option<Function<'_>>
-        ensures { λ r. ⌜ BySome r (now (self .entry) .blocks .len ≡ 0) (λ g. (now (g .tables) ≡ now (self .entry)) × (now (self .entry) .blocks .len ≡ 0 → ⊥)) ⌝ }
+    // The function that the tables hold; where they are zero, one with no blocks.
+    pub fn function(&self) -> Function<'_>
+        ensures { λ r. ⌜ now (r .tables) ≡ now (self .entry) ⌝ }
     {
-        if self.blocks.len() == 0 { None } else { Some(Function { tables: self }) }
+        Function { tables: self }
     }
 }
 
@@ -43,25 +43,29 @@ impl<'a> Function<'a> {
     }
 
     pub fn num_blocks(self) -> usize
-        ensures { λ r. ⌜ ((f : Func) → Shows (self .entry) f → r ≡ length (f .blocks)) ⌝ }
+        ensures value { λ r. ⌜ ((f : Func) → Shows (self .entry) f → r ≡ length (f .blocks)) ⌝ }
+        ensures bound { λ r. ⌜ r ≤ 64 ⌝ }
     {
         self.tables.blocks.len()
     }
 
     pub fn num_insts(self) -> usize
-        ensures { λ r. ⌜ ((f : Func) → Shows (self .entry) f → r ≡ length (all-insts f)) ⌝ }
+        ensures value { λ r. ⌜ ((f : Func) → Shows (self .entry) f → r ≡ length (all-insts f)) ⌝ }
+        ensures bound { λ r. ⌜ r ≤ 1024 ⌝ }
     {
         self.tables.insts.len()
     }
 
     pub fn num_values(self) -> usize
-        ensures { λ r. ⌜ ((f : Func) → Shows (self .entry) f → r ≡ length (value-rows f)) ⌝ }
+        ensures value { λ r. ⌜ ((f : Func) → Shows (self .entry) f → r ≡ length (value-rows f)) ⌝ }
+        ensures bound { λ r. ⌜ r ≤ 2048 ⌝ }
     {
         self.tables.values.len()
     }
 
     pub fn num_entries(self) -> usize
-        ensures { λ r. ⌜ ((f : Func) → Shows (self .entry) f → r ≡ length (f .order)) ⌝ }
+        ensures value { λ r. ⌜ ((f : Func) → Shows (self .entry) f → r ≡ length (f .order)) ⌝ }
+        ensures bound { λ r. ⌜ r ≤ 128 ⌝ }
     {
         self.tables.order.len()
     }

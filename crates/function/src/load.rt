@@ -32,7 +32,8 @@ impl Tables {
 
     // Reads a file; after a refusal every table is zero.
     pub fn fill(&mut self, file: &[u8]) -> Result<(), Refusal>
-        ensures { λ r. ⌜ Filled (now (file .entry)) r (now (self .exit)) ⌝ }
+        ensures filled { λ r. ⌜ Filled (now (file .entry)) r (now (self .exit)) ⌝ }
+        ensures law { λ _. ⌜ Format-law (now (file .entry)) ⌝ }
     {
         self.clear();
         let answer = self.store_file(file);

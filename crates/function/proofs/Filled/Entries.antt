@@ -21,7 +21,7 @@ use Rattle.std.specs.declared.option.Option.the-variants.{Some, None}
 
 -- a list by index
 module _ {X : Type 0} (g : ℕ → X) where
-  length-by-index : (k n : ℕ) → length (by-index g k n) ≡ n
+  pub length-by-index : (k n : ℕ) → length (by-index g k n) ≡ n
   length-by-index k zero = refl
   length-by-index k (suc n) = ap suc (length-by-index (suc k) n)
 
@@ -30,7 +30,7 @@ module _ {X : Type 0} (g : ℕ → X) where
   getD-from k (suc n) zero d h = ap g (sym (add-zero k))
   getD-from k (suc n) (suc i) d h = getD-from (suc k) n i d (omega arith) ∙ ap g (omega arith)
 
-  getD-by-index : (n i : ℕ) (d : X) → i < n → getD (by-index g 0 n) i d ≡ g i
+  pub getD-by-index : (n i : ℕ) (d : X) → i < n → getD (by-index g 0 n) i d ≡ g i
   getD-by-index n i d h = getD-from 0 n i d h ∙ ap g (zero-add i)
 
 -- one place written

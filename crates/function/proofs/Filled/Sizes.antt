@@ -8,7 +8,7 @@ use native.Mathlib.Omega.{arith}
 use lib.ListN.{length}
 use Rattle.function.proofs.Filled.Contents.{Fits, of-inst, of-body, of-blocks}
 use Rattle.function.proofs.Filled.Values.{length-defined}
-use Rattle.function.specs.Numbering.{Numbers, none-before, over-insts, over-blocks, uses-of, dest-places, past-inst, past-body, past-params}
+use Rattle.function.specs.Numbering.{Numbers, none-before, over-insts, over-blocks, uses-of, dest-places, past-inst, past-body, past-params, value-rows}
 use Rattle.reader.specs.Data.{Instruction, Body, Func}
 use Rattle.reader.specs.Within.{Within, Fits-body, sum-of, uses-in, body-uses, body-values}
 use Rattle.std.proofs.shelf.Lists.{length-append}
@@ -43,25 +43,29 @@ length-over-blocks g size h b n [] w = refl
 length-over-blocks g size h b n (x ∷ xs) w = length-both (g b n x) _ (h b n x (w .0)) (length-over-blocks g size h (suc b) (past-body x n) xs (w .1))
 
 -- a block has two places for destinations, since one instruction is the last
-two-places-each : (n : Numbers) (xs : List Instruction) → 1 ≤ length xs → length (over-insts dest-places n xs) ≡ 2
+pub two-places-each : (n : Numbers) (xs : List Instruction) → 1 ≤ length xs → length (over-insts dest-places n xs) ≡ 2
 two-places-each n [] h = absurd (omega arith)
 two-places-each n (x ∷ []) h = refl
 two-places-each n (x ∷ y ∷ ys) h = two-places-each (past-inst x n) (y ∷ ys) (omega arith)
 
-pub all-fits : (f : Func) → Within f → Fits (of-blocks 0 none-before (f .blocks))
-all-fits f w = record {
-  blocks = omega (arith, over (λ b n x. of-body b n x .blocks) (λ x. 1) (λ b n x h. refl), sum-same 1 (f .blocks));
-  insts = omega (arith, over (λ b n x. of-body b n x .insts) (λ x. length (x .insts))
-      (λ b n x h. let e = sum-same 1 (x .insts) in
-          length-over-insts (λ last m i. of-inst b last m i .insts) (λ i. 1) (λ last m i. refl) (past-params x n) (x .insts) ∙ omega arith));
-  values = omega (arith, over (λ b n x. of-body b n x .values) body-values
+module _ (f : Func) (w : Within f) where
+  over : {X : Type 0} (g : ℕ → Numbers → Body → List X) (size : Body → ℕ) → ((b : ℕ) (n : Numbers) (x : Body) → Fits-body x → length (g b n x) ≡ size x)
+       → length (over-blocks g 0 none-before (f .blocks)) ≡ sum-of size (f .blocks)
+  over g size h = length-over-blocks g size h 0 none-before (f .blocks) (w .each-block)
+
+  pub values-count : length (value-rows f) ≡ sum-of body-values (f .blocks)
+  values-count = over (λ b n x. of-body b n x .values) body-values
       (λ b n x h. length-both _ _ (length-defined _ 0 (x .params))
-          (length-over-insts (λ last m i. of-inst b last m i .values) (λ i. length (i .results)) (λ last m i. length-defined _ 0 (i .results)) (past-params x n) (x .insts))));
-  uses = omega (arith, over (λ b n x. of-body b n x .uses) body-uses
-      (λ b n x h. length-over-insts (λ last m i. uses-of i) uses-in (λ last m i. length-uses i) (past-params x n) (x .insts)));
-  destinations = omega (arith, over (λ b n x. of-body b n x .destinations) (λ x. 2)
-      (λ b n x h. two-places-each _ (x .insts) (h .some-inst)), sum-same 2 (f .blocks)) }
-  where
-    over : {X : Type 0} (g : ℕ → Numbers → Body → List X) (size : Body → ℕ) → ((b : ℕ) (n : Numbers) (x : Body) → Fits-body x → length (g b n x) ≡ size x)
-         → length (over-blocks g 0 none-before (f .blocks)) ≡ sum-of size (f .blocks)
-    over g size h = length-over-blocks g size h 0 none-before (f .blocks) (w .each-block)
+          (length-over-insts (λ last m i. of-inst b last m i .values) (λ i. length (i .results)) (λ last m i. length-defined _ 0 (i .results)) (past-params x n) (x .insts)))
+
+  pub all-fits : Fits (of-blocks 0 none-before (f .blocks))
+  all-fits = record {
+    blocks = omega (arith, over (λ b n x. of-body b n x .blocks) (λ x. 1) (λ b n x h. refl), sum-same 1 (f .blocks));
+    insts = omega (arith, over (λ b n x. of-body b n x .insts) (λ x. length (x .insts))
+        (λ b n x h. let e = sum-same 1 (x .insts) in
+            length-over-insts (λ last m i. of-inst b last m i .insts) (λ i. 1) (λ last m i. refl) (past-params x n) (x .insts) ∙ omega arith));
+    values = omega (arith, values-count);
+    uses = omega (arith, over (λ b n x. of-body b n x .uses) body-uses
+        (λ b n x h. length-over-insts (λ last m i. uses-of i) uses-in (λ last m i. length-uses i) (past-params x n) (x .insts)));
+    destinations = omega (arith, over (λ b n x. of-body b n x .destinations) (λ x. 2)
+        (λ b n x h. two-places-each _ (x .insts) (h .some-inst)), sum-same 2 (f .blocks)) }

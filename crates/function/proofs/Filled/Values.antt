@@ -24,7 +24,7 @@ pub length-defined : (def : ℕ → ValueDef) (k : ℕ) (ts : List Ty) → lengt
 length-defined def k [] = refl
 length-defined def k (t ∷ ts) = ap suc (length-defined def (suc k) ts)
 
-length-values : (v n : ℕ) → length (values-from v n) ≡ n
+pub length-values : (v n : ℕ) → length (values-from v n) ≡ n
 length-values v zero = refl
 length-values v (suc n) = ap suc (length-values (suc v) n)
 

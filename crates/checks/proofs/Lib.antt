@@ -1,0 +1,6 @@
+pub mod Judged
+pub mod Loops
+pub mod NumberTold
+pub mod OrderTold
+pub mod RowTold
+pub mod UsesTold

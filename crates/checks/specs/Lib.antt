@@ -1,0 +1,4 @@
+pub mod Tests
+pub mod Checks
+pub mod Verdict
+pub mod Steps
