@@ -3,3 +3,4 @@ pub mod Numbering
 pub mod Holding
 pub mod Filling
 pub mod Answers
+pub mod Predicates

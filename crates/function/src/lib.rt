@@ -3,6 +3,7 @@ pub mod answers;
 pub mod cells;
 pub mod fill;
 pub mod function;
+pub mod inst_predicates;
 pub mod load;
 pub mod rows;
 pub mod table;
