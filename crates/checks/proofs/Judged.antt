@@ -4,6 +4,7 @@ use mathlib.Core.Bool.{Bool, true, false, cond}
 use mathlib.Core.List.{List, [], _∷_, _++_}
 use Prim.Native.Nat.{ℕ}
 use native.Mathlib.Omega.{arith}
+use Rattle.checks.proofs.FactsHold.{facts-hold}
 use Rattle.checks.specs.Checks.{all-tests}
 use Rattle.checks.specs.Tests.{Test, first-fault, fault-of}
 use Rattle.checks.specs.Verdict.{judged, first-fault-of, Accepted, Loaded, Checked}
@@ -66,6 +67,7 @@ module _ (file : List ℕ) (law : Format-law file) where
       record {
         accepts = (λ h. absurd (false≢true h), λ a. absurd (none (a .0) (a .1)));
         holds = λ f a. absurd (none f a);
+        facts = λ f a. facts-hold f (a .within) (a .checked);
         refuses = λ n p. (λ s. ap judged r ∙ ap₂ (λ x y. Some (x, y)) (s .0) (s .1), λ q. some-same _ _ n p (sym (ap judged r) ∙ q));
         zero = z }
 
@@ -79,6 +81,7 @@ module _ (file : List ℕ) (law : Format-law file) where
         record {
           accepts = (λ b. absurd (false≢true b), λ a. absurd (none (a .0) (a .1)));
           holds = λ g a. absurd (none g a);
+          facts = λ g a. facts-hold g (a .within) (a .checked);
           refuses = λ n p. (λ s. ap judged r ∙ sym h ∙ ap₂ (λ x y. Some (x, y)) (s .0) (s .1), λ q. some-same _ _ n p (h ∙ sym (ap judged r) ∙ q));
           zero = z }
 
@@ -88,6 +91,7 @@ module _ (file : List ℕ) (law : Format-law file) where
         record {
           accepts = (λ b. (f, me), λ a. refl);
           holds = λ g a. k ∙ ap store-of (sym (only g a));
+          facts = λ g a. facts-hold g (a .within) (a .checked);
           refuses = λ n p. (λ s. absurd s, λ q. absurd (some-none (sym q ∙ ap judged r ∙ sym h)));
           zero = tt }
 

@@ -1,3 +1,4 @@
+pub mod FactsHold
 pub mod Judged
 pub mod Loops
 pub mod NumberTold

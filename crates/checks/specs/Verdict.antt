@@ -5,6 +5,7 @@ use mathlib.Core.Logic.{_↔_}
 use mathlib.Core.Path.{_≡_}
 use Prim.Native.Nat.{ℕ}
 use Rattle.checks.specs.Checks.{all-tests}
+use Rattle.checks.specs.Facts.{Facts}
 use Rattle.checks.specs.Tests.{first-fault}
 use Rattle.clif.specs.Refusals.{refusal-number, refusal-place}
 use Rattle.clif.specs.declared.refusals.Refusal.{Refusal}
@@ -48,10 +49,11 @@ Zero-if-refused (Ok _) t = Unit {0}
 Zero-if-refused (Err e) t = view t ≡ zero-store
 
 -- what loading a file promises: it is accepted exactly if the file is the bytes of a function within the limits that has
--- every checked property, and the tables then hold that function; it is refused with a number at a place exactly if they
+-- every checked property; the tables then hold that function, and it has the facts that later layers rely on; it is refused with a number at a place exactly if they
 -- are the first fault; and after a refusal every table is zero
 pub record Loaded (file : List ℕ) (r : Result (Unit {0}) Refusal) (t : Tables) : Type 0 where
   pub accepts : (isOk r ≡ true) ↔ ((f : Func) × Accepted file f)
   pub holds : (f : Func) → Accepted file f → Holds t f
+  pub facts : (f : Func) → Accepted file f → Facts f
   pub refuses : (n p : ℕ) → Said r n p ↔ (first-fault-of file ≡ Some (n, p))
   pub zero : Zero-if-refused r t
