@@ -7,6 +7,7 @@ use crate::table::Table;
 use clif::entities::Entry;
 use clif::entities::Value;
 
+#[derive(Drop)]
 pub struct Tables {
     pub(crate) blocks: Table<Option<BlockData>, 64>,
     pub(crate) insts: Table<Option<InstData>, 1024>,
