@@ -122,20 +122,22 @@ zero-entry f (to-edge b k) h =
 
 pub facts-hold : (f : Func) → Within f → first-fault (all-tests f) ≡ None → Facts f
 facts-hold f w e = record {
-    rows = row; terminators = λ i x h. terminator i x h;
-    values = λ i x h. and-parts (all-pass (value-exists f) (uses-of x)) _ (number i x h) .0;
-    destinations = λ i x h. and-parts (all-pass (value-exists f) (uses-of x)) _ (number i x h) .1;
-    begins = let o = nth-first (f .order) (w .some-entry) in o .1 ∙ ap Some (zero-entry f (o .0) (entry 0 (o .0) (o .1)));
-    blocks-once = λ k b h.
+  rows = row;
+  terminators = λ i x h. terminator i x h;
+  values = λ i x h. and-parts (all-pass (value-exists f) (uses-of x)) _ (number i x h) .0;
+  destinations = λ i x h. and-parts (all-pass (value-exists f) (uses-of x)) _ (number i x h) .1;
+  begins = let o = nth-first (f .order) (w .some-entry) in o .1 ∙ ap Some (zero-entry f (o .0) (entry 0 (o .0) (o .1)));
+  blocks-once = λ k b h.
       let a = and-parts (ltb (b .0) (length (f .blocks))) _ (entry k (to-block b) h) in
       (ltb-true (b .0) (length (f .blocks)) (a .0), is-entry-true (entry-of-block f (b .0)) k (and-parts (is-entry (entry-of-block f (b .0)) k) _ (a .1) .0));
-    edges-once = λ k b j h. let a = edge k b j h in (ltb-true j (length (destinations-of-block f (b .0))) (a .0), is-entry-true (entry-of-edge f (b .0) j) k (and-parts (is-entry (entry-of-edge f (b .0) j) k) _ (a .1) .0));
-    edges-behind = λ k b j h. is-before-true (entry-of-block f (b .0)) k (and-parts (is-entry (entry-of-edge f (b .0) j) k) _ (edge k b j h .1) .1);
-    destinations-ordered = λ k b h.
+  edges-once = λ k b j h. let a = edge k b j h in (ltb-true j (length (destinations-of-block f (b .0))) (a .0), is-entry-true (entry-of-edge f (b .0) j) k (and-parts (is-entry (entry-of-edge f (b .0) j) k) _ (a .1) .0));
+  edges-behind = λ k b j h. is-before-true (entry-of-block f (b .0)) k (and-parts (is-entry (entry-of-edge f (b .0) j) k) _ (edge k b j h .1) .1);
+  destinations-ordered = λ k b h.
       let a = and-parts (ltb (b .0) (length (f .blocks))) _ (entry k (to-block b) h) .1 in
       let c = and-parts (is-entry (entry-of-block f (b .0)) k) _ a .1 in
       and-parts (same-flag (eqb k 0) (eqb (b .0) 0)) _ c .1;
-    uses-behind = λ i b h o. ordered-all (isSome (entry-of-block f (b .0))) _ o (sym (ap (uses-fit f i) h) ∙ use-at i b h) }
+  uses-behind = λ i b h o. ordered-all (isSome (entry-of-block f (b .0))) _ o (sym (ap (uses-fit f i) h) ∙ use-at i b h);
+}
   where
     n : ℕ
     n = length (all-insts f)

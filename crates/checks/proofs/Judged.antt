@@ -29,7 +29,7 @@ fault-behind [] us e = refl
 fault-behind (t ∷ ts) us e = go (t .passes) e (fault-behind ts us)
   where
     go : (b : Bool) → cond b (first-fault ts) (Some (t .number, t .place)) ≡ None → (first-fault ts ≡ None → first-fault (ts ++ us) ≡ first-fault us)
-       → cond b (first-fault (ts ++ us)) (Some (t .number, t .place)) ≡ first-fault us
+        → cond b (first-fault (ts ++ us)) (Some (t .number, t .place)) ≡ first-fault us
     go true e ih = ih e
     go false e ih = absurd (let z : _≡_ {A = ℕ} 0 1 = cc in omega arith)
 
@@ -38,7 +38,7 @@ fault-before [] us p e = absurd (let z : _≡_ {A = ℕ} 0 1 = cc in omega arith
 fault-before (t ∷ ts) us p e = go (t .passes) e (fault-before ts us p)
   where
     go : (b : Bool) → cond b (first-fault ts) (Some (t .number, t .place)) ≡ Some p → (first-fault ts ≡ Some p → first-fault (ts ++ us) ≡ Some p)
-       → cond b (first-fault (ts ++ us)) (Some (t .number, t .place)) ≡ Some p
+        → cond b (first-fault (ts ++ us)) (Some (t .number, t .place)) ≡ Some p
     go true e ih = ih e
     go false e ih = e
 
@@ -69,7 +69,8 @@ module _ (file : List ℕ) (law : Format-law file) where
         holds = λ f a. absurd (none f a);
         facts = λ f a. facts-hold f (a .within) (a .checked);
         refuses = λ n p. (λ s. ap judged r ∙ ap₂ (λ x y. Some (x, y)) (s .0) (s .1), λ q. some-same _ _ n p (sym (ap judged r) ∙ q));
-        zero = z }
+        zero = z;
+      }
 
   module _ (f : Func) (r : read file ≡ done f) where
     only : (g : Func) → Accepted file g → g ≡ f
@@ -83,7 +84,8 @@ module _ (file : List ℕ) (law : Format-law file) where
           holds = λ g a. absurd (none g a);
           facts = λ g a. facts-hold g (a .within) (a .checked);
           refuses = λ n p. (λ s. ap judged r ∙ sym h ∙ ap₂ (λ x y. Some (x, y)) (s .0) (s .1), λ q. some-same _ _ n p (h ∙ sym (ap judged r) ∙ q));
-          zero = z }
+          zero = z;
+        }
 
     pub loaded-good : (x : Unit {0}) (t : Tables) → None ≡ first-fault (all-tests f) → Holds t f → Loaded file (Ok x) t
     loaded-good x t h k =
@@ -93,7 +95,8 @@ module _ (file : List ℕ) (law : Format-law file) where
           holds = λ g a. k ∙ ap store-of (sym (only g a));
           facts = λ g a. facts-hold g (a .within) (a .checked);
           refuses = λ n p. (λ s. absurd s, λ q. absurd (some-none (sym q ∙ ap judged r ∙ sym h)));
-          zero = tt }
+          zero = tt;
+        }
 
     -- the answer of the checks, whichever it is
     pub loaded-refused : (x : Result (Unit {0}) Refusal) (t : Tables) → isErr x ≡ true → fault-of x ≡ first-fault (all-tests f) → view t ≡ zero-store → Loaded file x t

@@ -32,7 +32,7 @@ nth-some (x ∷ xs) (suc k) = nth-some xs k ∙ shift
   where
     shift : ltb k (length xs) ≡ ltb (suc k) (suc (length xs))
     shift = ⊎-elim (λ (h : k < length xs). lt-ltb k (length xs) h ∙ sym (lt-ltb (suc k) (suc (length xs)) (omega arith)))
-      (λ (h : length xs ≤ k). le-ltb k (length xs) h ∙ sym (le-ltb (suc k) (suc (length xs)) (omega arith))) (cases-lt k (length xs))
+        (λ (h : length xs ≤ k). le-ltb k (length xs) h ∙ sym (le-ltb (suc k) (suc (length xs)) (omega arith))) (cases-lt k (length xs))
 
 -- of a block's destinations, at most two, the tables keep all
 module _ (f : Func) (o : Option Instruction) (few : length (list-in o (λ x. x .destinations)) ≤ 2) where
@@ -41,7 +41,7 @@ module _ (f : Func) (o : Option Instruction) (few : length (list-in o (λ x. x .
   ordered-kept = go o few
     where
       go : (o : Option Instruction) → length (list-in o (λ x. x .destinations)) ≤ 2
-        → (maybe-ordered f (option-in o (λ x. nth (x .destinations) 0)) && maybe-ordered f (option-in o (λ x. nth (x .destinations) 1)))
+          → (maybe-ordered f (option-in o (λ x. nth (x .destinations) 0)) && maybe-ordered f (option-in o (λ x. nth (x .destinations) 1)))
           ≡ all-pass (λ d. isSome (entry-of-block f (d .target .0))) (list-in o (λ x. x .destinations))
       go None h = refl
       go (Some x) h = two-pass (λ d. isSome (entry-of-block f (d .target .0))) (maybe-ordered f) refl (λ d. refl) (x .destinations) h
@@ -86,7 +86,7 @@ rows-from f i zero k e h = absurd (omega arith)
 rows-from f i (suc n) k e h = go (row-test f i .passes) refl (numbers-test f i .passes) refl k h (rows-from f (suc i) n)
   where
     go : (p : Bool) → row-test f i .passes ≡ p → (q : Bool) → numbers-test f i .passes ≡ q → (k : ℕ) → k < suc n
-       → ((k : ℕ) → first-fault (inst-tests f (suc i) n) ≡ None → k < n → row-test f (suc i + k) .passes ≡ true) → row-test f (i + k) .passes ≡ true
+        → ((k : ℕ) → first-fault (inst-tests f (suc i) n) ≡ None → k < n → row-test f (suc i + k) .passes ≡ true) → row-test f (i + k) .passes ≡ true
     go false a q b k h ih = absurd (some-none (3, i) (sym (ap (λ t. cond t (first-fault (numbers-test f i ∷ inst-tests f (suc i) n)) (Some (3, i))) a) ∙ e))
     go true a false b k h ih = absurd (some-none (4, i) (sym (ap₂ (λ s t. cond s (cond t (first-fault (inst-tests f (suc i) n)) (Some (4, i))) (Some (3, i))) a b) ∙ e))
     go true a true b zero h ih = ap (λ j. row-test f j .passes) (omega arith) ∙ a

@@ -28,7 +28,8 @@ shape-in o last rs = record {
   destinations = number-in o (λ x. length (x .destinations));
   immediate = isSome (option-in o (λ x. x .immediate));
   flag = isSome (option-in o (λ x. x .flag));
-  last = last }
+  last = last;
+}
 
 pub row-told : (f : Func) (o : Option Instruction) (last : Bool) (rs : List Value) (op : Opcode) (row : Row) (s : Shape) (a b : Bool)
     → Some op ≡ mapped (λ x. x .opcode) o → row ≡ row-of op → s ≡ shape-in o last rs → a ≡ shape-fits row s → b ≡ constant-fits f (option-in o (λ x. x .immediate)) rs

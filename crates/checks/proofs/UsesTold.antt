@@ -52,7 +52,7 @@ module _ (f : Func) where
 
   pub end-is-start : (b : ℕ) → b < length (f .blocks) → end-of f b ≡ start-of f (b + 1)
   end-is-start b h = let s : suc b ≡ b + 1 = omega arith in let e : start-of f (suc b) ≡ start-of f (b + 1) = ap (start-of f) s in
-    ⊎-elim (λ (l : suc b < length (f .blocks)). end-is-next f b l ∙ sym (start-below (suc b) l) ∙ e)
+      ⊎-elim (λ (l : suc b < length (f .blocks)). end-is-next f b l ∙ sym (start-below (suc b) l) ∙ e)
       (λ (l : length (f .blocks) ≤ suc b). end-is-all f b (omega arith) ∙ sym (start-behind (suc b) l) ∙ e) (cases-lt (suc b) (length (f .blocks)))
 
 first-end : (o : Option BlockData) → number-in o (λ r. r .«first_inst») ≤ number-in o (λ r. r .«first_inst» + r .insts)

@@ -51,7 +51,8 @@ shape-of x last results = record {
   destinations = length (x .destinations);
   immediate = isSome (x .immediate);
   flag = isSome (x .flag);
-  last = last }
+  last = last;
+}
 
 -- an instruction looks as its opcode's row says, and is a terminator exactly where it is the last of its block
 abbrev pub shape-fits : Row → Shape → Bool

@@ -77,11 +77,17 @@ fn destinations_fit(func: Function, inst: Inst) -> bool
     let Some(block) = func.inst_block(inst) else {
         return true;
     };
-    both(call_fits(func, func.destination(block, 0)), call_fits(func, func.destination(block, 1)))
+    both(
+        call_fits(func, func.destination(block, 0)),
+        call_fits(func, func.destination(block, 1)),
+    )
 }
 
 pub(crate) fn numbers_fit(func: Function, inst: Inst) -> bool
     ensures { λ r. ⌜ ((f : Func) → Shows (func .entry) f → inst .0 < length (all-insts f) → row-test f (inst .0) .passes ≡ true → r ≡ with-inst f (inst .0) (numbers-fit f)) ⌝ }
 {
-    both(values_exist(func, func.inst_uses(inst)), destinations_fit(func, inst))
+    both(
+        values_exist(func, func.inst_uses(inst)),
+        destinations_fit(func, inst),
+    )
 }

@@ -72,7 +72,13 @@ fn shape_fits(row: Row, x: Shape) -> bool
     let immediate = same(row.immediate, x.immediate);
     let flag = row.flag || !x.flag;
     let terminator = same(row.class.terminator, x.last);
-    both(operands, both(results, both(destinations, both(immediate, both(flag, terminator)))))
+    both(
+        operands,
+        both(
+            results,
+            both(destinations, both(immediate, both(flag, terminator))),
+        ),
+    )
 }
 
 pub(crate) fn row_fits(func: Function, inst: Inst) -> bool

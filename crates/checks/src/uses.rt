@@ -30,7 +30,11 @@ fn inst_before(func: Function, b: Block, i: usize, j: Inst) -> bool
 {
     match func.inst_block(j) {
         Some(c) => {
-            if c.index() == b.index() { j.index() < i } else { ordered_before(func, c, b) }
+            if c.index() == b.index() {
+                j.index() < i
+            } else {
+                ordered_before(func, c, b)
+            }
         }
         None => false,
     }

@@ -37,14 +37,19 @@ opcode-of = numbered opcode-number all-opcodes
 -- the classes: loads, stores, calls, branches (which are terminators too), other terminators, and none of these
 abbrev pub no-class : Class
 no-class = record { load = false; store = false; call = false; branch = false; terminator = false }
+
 abbrev pub load-class : Class
 load-class = record { load = true; store = false; call = false; branch = false; terminator = false }
+
 abbrev pub store-class : Class
 store-class = record { load = false; store = true; call = false; branch = false; terminator = false }
+
 abbrev pub call-class : Class
 call-class = record { load = false; store = false; call = true; branch = false; terminator = false }
+
 abbrev pub branch-class : Class
 branch-class = record { load = false; store = false; call = false; branch = true; terminator = true }
+
 abbrev pub exit-class : Class
 exit-class = record { load = false; store = false; call = false; branch = false; terminator = true }
 

@@ -48,12 +48,53 @@ pub struct Row {
     pub class: Class,
 }
 
-const PURE: Class = Class { load: false, store: false, call: false, branch: false, terminator: false };
-const LOAD: Class = Class { load: true, store: false, call: false, branch: false, terminator: false };
-const STORE: Class = Class { load: false, store: true, call: false, branch: false, terminator: false };
-const CALL: Class = Class { load: false, store: false, call: true, branch: false, terminator: false };
-const BRANCH: Class = Class { load: false, store: false, call: false, branch: true, terminator: true };
-const EXIT: Class = Class { load: false, store: false, call: false, branch: false, terminator: true };
+const PURE: Class = Class {
+    load: false,
+    store: false,
+    call: false,
+    branch: false,
+    terminator: false,
+};
+
+const LOAD: Class = Class {
+    load: true,
+    store: false,
+    call: false,
+    branch: false,
+    terminator: false,
+};
+
+const STORE: Class = Class {
+    load: false,
+    store: true,
+    call: false,
+    branch: false,
+    terminator: false,
+};
+
+const CALL: Class = Class {
+    load: false,
+    store: false,
+    call: true,
+    branch: false,
+    terminator: false,
+};
+
+const BRANCH: Class = Class {
+    load: false,
+    store: false,
+    call: false,
+    branch: true,
+    terminator: true,
+};
+
+const EXIT: Class = Class {
+    load: false,
+    store: false,
+    call: false,
+    branch: false,
+    terminator: true,
+};
 
 impl Span {
     pub fn holds(self, n: usize) -> bool
@@ -81,7 +122,14 @@ fn exactly(n: u8) -> Span
 fn plain(operands: Span, results: Span, class: Class) -> Row
     ensures { λ r. ⌜ r ≡ make-row operands results false false (counted 0) class ⌝ }
 {
-    Row { operands, results, immediate: false, flag: false, destinations: exactly(0), class }
+    Row {
+        operands,
+        results,
+        immediate: false,
+        flag: false,
+        destinations: exactly(0),
+        class,
+    }
 }
 
 impl Opcode {
@@ -118,14 +166,30 @@ impl Opcode {
         ensures { λ r. ⌜ r ≡ row-of self ⌝ }
     {
         match self {
-            Opcode::Iconst => Row { immediate: true, ..plain(exactly(0), exactly(1), PURE) },
-            Opcode::Iadd | Opcode::Imul | Opcode::Umulhi | Opcode::Icmp => plain(exactly(2), exactly(1), PURE),
+            Opcode::Iconst => Row {
+                immediate: true,
+                ..plain(exactly(0), exactly(1), PURE)
+            },
+            Opcode::Iadd | Opcode::Imul | Opcode::Umulhi | Opcode::Icmp => plain(
+                exactly(2),
+                exactly(1),
+                PURE,
+            ),
             Opcode::UaddOverflow => plain(exactly(2), exactly(2), PURE),
-            Opcode::Load => Row { flag: true, ..plain(exactly(1), exactly(1), LOAD) },
+            Opcode::Load => Row {
+                flag: true,
+                ..plain(exactly(1), exactly(1), LOAD)
+            },
             Opcode::Store => plain(exactly(2), exactly(0), STORE),
             Opcode::Call => plain(Span { least: 0, most: 8 }, Span { least: 0, most: 2 }, CALL),
-            Opcode::Jump => Row { destinations: exactly(1), ..plain(exactly(0), exactly(0), BRANCH) },
-            Opcode::Brif => Row { destinations: exactly(2), ..plain(exactly(1), exactly(0), BRANCH) },
+            Opcode::Jump => Row {
+                destinations: exactly(1),
+                ..plain(exactly(0), exactly(0), BRANCH)
+            },
+            Opcode::Brif => Row {
+                destinations: exactly(2),
+                ..plain(exactly(1), exactly(0), BRANCH)
+            },
             Opcode::Return => plain(Span { least: 0, most: 4 }, exactly(0), EXIT),
             Opcode::Trap => plain(exactly(0), exactly(0), EXIT),
         }

@@ -60,7 +60,7 @@ record-stored r x y s u last e l c f =
 pub file-stored : (x : Reader) (s : Store) → x .insts ≡ 0 → mapped-outcome (λ t. stored t s) (left x) ≡ mapped-outcome (λ f. stored (tail-of f) s) (mapped-outcome func-of (left x))
 file-stored x s z =
     mapped-same (λ t. stored t s) (λ t. stored (tail-of (func-of t)) s) (left x)
-      (λ t d. let a = nil-from-length (t .insts) (left-length x t d .0 ∙ z) in rw a)
+    (λ t d. let a = nil-from-length (t .insts) (left-length x t d .0 ∙ z) in rw a)
     ∙ sym (mapped-twice (λ f. stored (tail-of f) s) func-of (left x))
 
 outcome-same : (a b : Store) → done a ≡ done b → a ≡ b

@@ -66,7 +66,8 @@ store-block params count s = record {
   destinations = s .destinations;
   order = s .order;
   block-entries = s .block-entries;
-  edge-entries = s .edge-entries }
+  edge-entries = s .edge-entries;
+}
 
 -- an instruction's row, with the uses that were stored for it
 abbrev pub row-now : Bool → Instruction → Store → InstData
@@ -82,7 +83,8 @@ row-now last x s = record {
   destinations = length (x .destinations);
   immediate = x .immediate;
   flag = x .flag;
-  location = x .location }
+  location = x .location;
+}
 
 abbrev pub store-inst : Bool → Instruction → Store → Store
 store-inst last x s = record {
@@ -94,7 +96,8 @@ store-inst last x s = record {
   destinations = pushed-all 128 (two-places last (placed (x .destinations) (pushed-all 4096 (x .operands) (s .uses)))) (s .destinations);
   order = s .order;
   block-entries = s .block-entries;
-  edge-entries = s .edge-entries }
+  edge-entries = s .edge-entries;
+}
 
 -- the entry is noted at a place where none is yet
 abbrev pub noted : ℕ → ℕ → Cells (Option ℕ) → Cells (Option ℕ)
@@ -118,7 +121,8 @@ store-entry x s = record {
   destinations = s .destinations;
   order = pushed 128 (Some x) (s .order);
   block-entries = noted-block x (s .order .len) (s .block-entries);
-  edge-entries = noted-edge x (s .order .len) (s .edge-entries) }
+  edge-entries = noted-edge x (s .order .len) (s .edge-entries);
+}
 
 abbrev pub store-insts : List Instruction → Store → Store
 store-insts [] s = s
@@ -151,7 +155,8 @@ abbrev pub kept-more : Kept → DestData → Kept
 kept-more k d = record {
   count = k .count + 1;
   first = cond (eqb (k .count) 0) (Some d) (k .first);
-  second = cond (eqb (k .count) 1) (Some d) (k .second) }
+  second = cond (eqb (k .count) 1) (Some d) (k .second);
+}
 
 -- a whole function is left
 abbrev pub tail-of : Func → Tail

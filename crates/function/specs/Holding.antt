@@ -47,7 +47,8 @@ view t = record {
   destinations = cells (t .destinations);
   order = cells (t .order);
   block-entries = cells (t .«block_entries»);
-  edge-entries = cells (t .«edge_entries») }
+  edge-entries = cells (t .«edge_entries»);
+}
 
 -- whether an entry of the order names a block, or an edge by its predecessor and destination index
 abbrev pub names-block : ℕ → Entry → Bool
@@ -85,7 +86,8 @@ store-of f = record {
   destinations = table 128 None (all-destinations f);
   order = table 128 None (map Some (f .order));
   block-entries = record { rows = by-index (block-entry (f .order)) 0 64; len = 0 };
-  edge-entries = record { rows = by-index (λ i. edge-entry (f .order) (i / 2) (i % 2)) 0 128; len = 0 } }
+  edge-entries = record { rows = by-index (λ i. edge-entry (f .order) (i / 2) (i % 2)) 0 128; len = 0 };
+}
 
 -- every table zero: numbers 0, options None
 abbrev pub zero-store : Store
@@ -98,7 +100,8 @@ zero-store = record {
   destinations = table 128 None [];
   order = table 128 None [];
   block-entries = table 64 None [];
-  edge-entries = table 128 None [] }
+  edge-entries = table 128 None [];
+}
 
 abbrev pub Holds : Tables → Func → Type 0
 Holds t f = view t ≡ store-of f

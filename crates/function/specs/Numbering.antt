@@ -94,7 +94,8 @@ inst-row b last n x = record {
   destinations = length (x .destinations);
   immediate = x .immediate;
   flag = x .flag;
-  location = x .location }
+  location = x .location;
+}
 
 -- the two places for the destinations of a block's last instruction
 abbrev pub dest-places : Bool → Numbers → Instruction → List (Option DestData)

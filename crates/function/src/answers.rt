@@ -186,7 +186,10 @@ impl<'a> Function<'a> {
             return None;
         }
         let d = self.tables.destinations.read(2 * block.index() + k, None)?;
-        Some(BlockCall { block: d.target, args: self.tables.uses.part(d.first_arg, d.args) })
+        Some(BlockCall {
+            block: d.target,
+            args: self.tables.uses.part(d.first_arg, d.args),
+        })
     }
 
     pub fn value_type(self, value: Value) -> Option<Type>
@@ -219,6 +222,10 @@ impl<'a> Function<'a> {
     pub fn edge_entry(self, block: Block, k: usize) -> Option<usize>
         ensures { λ r. ⌜ ((f : Func) → Shows (self .entry) f → r ≡ entry-of-edge f (block .0) k) ⌝ }
     {
-        if k < 2 { self.tables.edge_entries.read(2 * block.index() + k, None) } else { None }
+        if k < 2 {
+            self.tables.edge_entries.read(2 * block.index() + k, None)
+        } else {
+            None
+        }
     }
 }

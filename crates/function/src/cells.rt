@@ -10,7 +10,10 @@ impl<E: Copy, const N: usize> Table<E, N> {
     pub(crate) fn new(zero: E) -> Self
         ensures { λ r. ⌜ cells r ≡ table-of N zero [] ⌝ }
     {
-        Table { rows: [zero; N], len: 0 }
+        Table {
+            rows: [zero; N],
+            len: 0,
+        }
     }
 
     pub(crate) fn len(&self) -> usize

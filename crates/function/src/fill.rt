@@ -12,11 +12,11 @@ ghost use Rattle.reader.specs.Parts.{words-of, types-of};
 ghost use Rattle.reader.specs.Records.{destinations-of, instruction-of};
 ghost use Rattle.std.specs.Joined.{joined};
 ghost use Rattle.std.specs.declared.option.Option.the-variants.{Some};
+use crate::rows::BlockData;
 use crate::rows::DestData;
+use crate::rows::InstData;
 use crate::rows::ValueData;
 use crate::rows::ValueDef;
-use crate::rows::BlockData;
-use crate::rows::InstData;
 use crate::table::Table;
 use crate::tables::Tables;
 use clif::entities::Block;
@@ -102,9 +102,17 @@ fn push_destinations(uses: &mut Table<Value, 4096>, destinations: Destinations) 
     ensures pushed { λ _. ⌜ cells (now (uses .exit)) ≡ pushed-all 4096 (joined (λ d. d .args) (destinations-of (destinations .entry))) (cells (now (uses .entry))) ⌝ }
 {
     let mut rest = destinations;
-    let mut seen = Kept { count: 0, first: None, second: None };
+    let mut seen = Kept {
+        count: 0,
+        first: None,
+        second: None,
+    };
     while let Some(d) = rest.next() {
-        let row = DestData { target: d.target, first_arg: uses.len(), args: d.args.len() / 2 };
+        let row = DestData {
+            target: d.target,
+            first_arg: uses.len(),
+            args: d.args.len() / 2,
+        };
         push_words(uses, d.args);
         seen.add(row);
     }
@@ -121,7 +129,12 @@ fn push_uses(uses: &mut Table<Value, 4096>, operands: &[u8], destinations: Desti
 }
 
 // The two places of a block, once its last instruction is there.
-fn push_places(places: &mut Table<Option<DestData>, 128>, last: bool, first: Option<DestData>, second: Option<DestData>)
+fn push_places(
+    places: &mut Table<Option<DestData>, 128>,
+    last: bool,
+    first: Option<DestData>,
+    second: Option<DestData>,
+)
     ensures { λ _. ⌜ cells (now (places .exit)) ≡ pushed-all 128 (two-of last first second) (cells (now (places .entry))) ⌝ }
 {
     if last {
@@ -166,7 +179,12 @@ impl Tables {
         let first_inst = self.insts.len();
         let params = push_values(&mut self.values, b.params, ValueDef::Param(block, 0));
         push_numbers(&mut self.numbers, params);
-        self.blocks.push(Some(BlockData { first_param, params, first_inst, insts: b.insts as usize }));
+        self.blocks.push(Some(BlockData {
+            first_param,
+            params,
+            first_inst,
+            insts: b.insts as usize,
+        }));
     }
 
     pub(crate) fn store_inst(&mut self, x: InstRecord, last: bool)

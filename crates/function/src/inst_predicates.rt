@@ -69,5 +69,9 @@ pub fn is_constant_64bit(func: Function, inst: Inst) -> Option<u64>
     ensures { λ r. ⌜ ((f : Func) → Shows (func .entry) f → r ≡ constant f (inst .0)) ⌝ }
 {
     let opcode = func.opcode(inst)?;
-    if opcode.row().immediate { func.immediate(inst) } else { None }
+    if opcode.row().immediate {
+        func.immediate(inst)
+    } else {
+        None
+    }
 }

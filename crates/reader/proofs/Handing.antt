@@ -104,6 +104,7 @@ left-length x t e =
     let a = after-back (repeated (x .insts) instruction size (spot (x .fields))) _ t (g .0) (g .1) in
     let b = after-back (repeated (x .blocks) body size (a .1)) _ t (g .0) (a .3) in
     let d = after-back (order-left (x .entries) size (b .1)) _ t (g .0) (b .3) in
-    let y : t ≡ record { insts = a .0; blocks = b .0; order = d .0 } = cc in
-    (ap (λ u. length (u .insts)) y ∙ repeated-length instruction size (x .insts) (spot (x .fields)) (a .1) (a .0) (a .2),
-     ap (λ u. length (u .blocks)) y ∙ repeated-length body size (x .blocks) (a .1) (b .1) (b .0) (b .2))
+    let y : t ≡ record { insts = a .0; blocks = b .0; order = d .0 } = cc in (
+      ap (λ u. length (u .insts)) y ∙ repeated-length instruction size (x .insts) (spot (x .fields)) (a .1) (a .0) (a .2),
+      ap (λ u. length (u .blocks)) y ∙ repeated-length body size (x .blocks) (a .1) (b .1) (b .0) (b .2),
+    )

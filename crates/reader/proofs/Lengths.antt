@@ -64,8 +64,8 @@ module _ (size : ℕ) (ts : Totals) where
   types-ok (suc n) (b ∷ bs) h = go (type-of b) refl (types-ok n bs)
     where
       go : (o : Option Ty) → type-of b ≡ o
-         → (n ≤ typed-front (take n bs) → repeated n (named type-of) size (at bs) ≡ got (types-of (take n bs)) (at (drop n bs)))
-         → repeated (suc n) (named type-of) size (at (b ∷ bs)) ≡ got (types-of (take (suc n) (b ∷ bs))) (at (drop (suc n) (b ∷ bs)))
+          → (n ≤ typed-front (take n bs) → repeated n (named type-of) size (at bs) ≡ got (types-of (take n bs)) (at (drop n bs)))
+          → repeated (suc n) (named type-of) size (at (b ∷ bs)) ≡ got (types-of (take (suc n) (b ∷ bs))) (at (drop (suc n) (b ∷ bs)))
       go None e ih = let k : suc n ≤ 0 = rw e at h in absurd (omega arith)
       go (Some t) e ih = let k : suc n ≤ suc (typed-front (take n bs)) = rw e at h in let r = ih (omega arith) in rw (type-at b bs t e, r, e)
 
@@ -75,8 +75,8 @@ module _ (size : ℕ) (ts : Totals) where
   types-cut (suc n) (b ∷ bs) h = go (type-of b) refl (types-cut n bs)
     where
       go : (o : Option Ty) → type-of b ≡ o
-         → (typed-front (take n bs) < n → repeated n (named type-of) size (at bs) ≡ fault 1 (size - (length bs - typed-front (take n bs))))
-         → repeated (suc n) (named type-of) size (at (b ∷ bs)) ≡ fault 1 (size - (length (b ∷ bs) - typed-front (take (suc n) (b ∷ bs))))
+          → (typed-front (take n bs) < n → repeated n (named type-of) size (at bs) ≡ fault 1 (size - (length bs - typed-front (take n bs))))
+          → repeated (suc n) (named type-of) size (at (b ∷ bs)) ≡ fault 1 (size - (length (b ∷ bs) - typed-front (take (suc n) (b ∷ bs))))
       go None e ih = let d : suc (length bs) - 0 ≡ suc (length bs) = omega arith in rw (type-none b bs e, e, d)
       go (Some t) e ih =
           let k : suc (typed-front (take n bs)) < suc n = rw e at h in let r = ih (omega arith) in

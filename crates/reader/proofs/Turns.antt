@@ -34,7 +34,7 @@ module _ {A : Type 0} (p : Reads A) (size : ℕ) where
   went-start n s = record { front = []; left = let e : n - 0 ≡ n = omega arith in rw e (sym (after-got (repeated n p size s))) }
 
   step : (m : ℕ) (front : List A) (a : A) (t u : Spot) → p size t ≡ got a u
-       → after (repeated (suc m) p size t) (λ more v. got (front ++ more) v) ≡ after (repeated m p size u) (λ more v. got ((front ++ a ∷ []) ++ more) v)
+      → after (repeated (suc m) p size t) (λ more v. got (front ++ more) v) ≡ after (repeated m p size u) (λ more v. got ((front ++ a ∷ []) ++ more) v)
   step m front a t u e = rw e (go (repeated m p size u))
     where
       go : (r : Read (List A)) → after (after r (λ more v. got (a ∷ more) v)) (λ more v. got (front ++ more) v) ≡ after r (λ more v. got ((front ++ a ∷ []) ++ more) v)
@@ -44,7 +44,8 @@ module _ {A : Type 0} (p : Reads A) (size : ℕ) where
   pub went-on : (n k : ℕ) (s t u : Spot) (a : A) → k < n → p size t ≡ got a u → Went n k s t → Went n (k + 1) s u
   went-on n k s t u a h e w = record {
     front = w .front ++ a ∷ [];
-    left = let d : n - k ≡ suc (n - (k + 1)) = omega arith in w .left ∙ rw d (step (n - (k + 1)) (w .front) a t u e) }
+    left = let d : n - k ≡ suc (n - (k + 1)) = omega arith in w .left ∙ rw d (step (n - (k + 1)) (w .front) a t u e);
+  }
 
   pub went-wrong : (n k : ℕ) (s t : Spot) (m q : ℕ) → k < n → p size t ≡ fault m q → Went n k s t → repeated n p size s ≡ fault m q
   went-wrong n k s t m q h e w = let d : n - k ≡ suc (n - (k + 1)) = omega arith in w .left ∙ rw (d, e)

@@ -43,7 +43,6 @@ after (fault n p) k = fault n p
 
 -- one thing, then another that depends on it
 infixr 20 _>>=_
-
 abbrev pub _>>=_ : {A B : Type 0} → Reads A → (A → Reads B) → Reads B
 _>>=_ p q size s = after (p size s) (λ a t. q a size t)
 

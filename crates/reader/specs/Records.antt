@@ -33,7 +33,8 @@ instruction-of x = record {
   results = types-of (now (x .results));
   destinations = destinations-of (x .destinations);
   flag = x .flag;
-  location = x .location }
+  location = x .location;
+}
 
 abbrev pub heading-of : BlockRecord → List Ty × ℕ
 heading-of b = (types-of (now (b .params)), b .insts)

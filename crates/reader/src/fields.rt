@@ -64,7 +64,11 @@ impl<'a> Fields<'a> {
     {
         let at = self.place();
         let n = self.byte()?;
-        if least <= n && n <= most { Ok(n) } else { Err(Refusal::Unreadable(at)) }
+        if least <= n && n <= most {
+            Ok(n)
+        } else {
+            Err(Refusal::Unreadable(at))
+        }
     }
 
     pub(crate) fn opcode(&mut self) -> Result<Opcode, Refusal>
@@ -104,7 +108,13 @@ impl<'a> Fields<'a> {
     }
 
     // A count, already read at `at`, tested and added to its total.
-    pub(crate) fn admit(&mut self, at: usize, n: usize, least: usize, kind: Kind) -> Result<usize, Refusal>
+    pub(crate) fn admit(
+        &mut self,
+        at: usize,
+        n: usize,
+        least: usize,
+        kind: Kind,
+    ) -> Result<usize, Refusal>
         ensures told { λ r. ⌜ told (λ (n : ℕ). n) r (spot (now (self .exit))) ≡ admitted at n least kind (spot (now (self .entry))) ⌝ }
         ensures size { λ r. ⌜ now (self .exit) .size ≡ now (self .entry) .size ⌝ }
     {

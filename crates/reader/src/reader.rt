@@ -39,10 +39,25 @@ impl<'a> Reader<'a> {
         ensures fresh { λ r. ⌜ made r (λ x. x .insts ≡ 0) ⌝ }
     {
         witness(file);
-        let none = Totals { blocks: 0, insts: 0, values: 0, operands: 0, entries: 0 };
-        let mut fields = Fields { size: file.len(), rest: file, totals: none };
+        let none = Totals {
+            blocks: 0,
+            insts: 0,
+            values: 0,
+            operands: 0,
+            entries: 0,
+        };
+        let mut fields = Fields {
+            size: file.len(),
+            rest: file,
+            totals: none,
+        };
         let blocks = fields.counted(Kind::Blocks)?;
-        Ok(Reader { fields, insts: 0, blocks, entries: None })
+        Ok(Reader {
+            fields,
+            insts: 0,
+            blocks,
+            entries: None,
+        })
     }
 
     fn next_inst(&mut self) -> Result<Option<Record<'a>>, Refusal>
@@ -100,7 +115,11 @@ impl<'a> Reader<'a> {
         ensures falls { λ r. ⌜ made r (λ o. BySome o (Unit {0}) (λ _. due (now (self .exit)) < due (now (self .entry)))) ⌝ }
         ensures counts { λ r. ⌜ made r (λ o. Counts o (now (self .exit))) ⌝ }
     {
-        if self.fields.rest.is_empty() { Ok(None) } else { Err(Refusal::Unreadable(self.fields.place())) }
+        if self.fields.rest.is_empty() {
+            Ok(None)
+        } else {
+            Err(Refusal::Unreadable(self.fields.place()))
+        }
     }
 
     // The next record; none at the end of the file.

@@ -97,14 +97,22 @@ impl<'a> Fields<'a> {
         ensures told { λ r. ⌜ told (λ (b : RefT (List ℕ)). words-of (now b)) r (spot (now (self .exit))) ≡ standing map 1 [] (uses-field 1) (now (self .entry) .size) (spot (now (self .entry))) ⌝ }
         ensures size { λ r. ⌜ now (self .exit) .size ≡ now (self .entry) .size ⌝ }
     {
-        if stands(map, 1) { self.uses(1) } else { Ok(&[]) }
+        if stands(map, 1) {
+            self.uses(1)
+        } else {
+            Ok(&[])
+        }
     }
 
     fn immediate(&mut self, map: u8) -> Result<Option<u64>, Refusal>
         ensures told { λ r. ⌜ told (λ (o : Option ℕ). o) r (spot (now (self .exit))) ≡ standing map 2 None (present (number 8)) (now (self .entry) .size) (spot (now (self .entry))) ⌝ }
         ensures size { λ r. ⌜ now (self .exit) .size ≡ now (self .entry) .size ⌝ }
     {
-        if stands(map, 2) { Ok(Some(self.quad()?)) } else { Ok(None) }
+        if stands(map, 2) {
+            Ok(Some(self.quad()?))
+        } else {
+            Ok(None)
+        }
     }
 
     fn type_list(&mut self, map: u8, bit: u8) -> Result<&'a [u8], Refusal>
@@ -112,21 +120,33 @@ impl<'a> Fields<'a> {
         ensures told { λ r. ⌜ told (λ (b : RefT (List ℕ)). types-of (now b)) r (spot (now (self .exit))) ≡ standing map bit [] types-field (now (self .entry) .size) (spot (now (self .entry))) ⌝ }
         ensures size { λ r. ⌜ now (self .exit) .size ≡ now (self .entry) .size ⌝ }
     {
-        if stands(map, bit) { self.types() } else { Ok(&[]) }
+        if stands(map, bit) {
+            self.types()
+        } else {
+            Ok(&[])
+        }
     }
 
     fn notrap(&mut self, map: u8) -> Result<Option<bool>, Refusal>
         ensures told { λ r. ⌜ told (λ (o : Option Bool). o) r (spot (now (self .exit))) ≡ standing map 16 None (present (named flag-of)) (now (self .entry) .size) (spot (now (self .entry))) ⌝ }
         ensures size { λ r. ⌜ now (self .exit) .size ≡ now (self .entry) .size ⌝ }
     {
-        if stands(map, 16) { Ok(Some(self.flag()?)) } else { Ok(None) }
+        if stands(map, 16) {
+            Ok(Some(self.flag()?))
+        } else {
+            Ok(None)
+        }
     }
 
     fn location(&mut self, map: u8) -> Result<Option<u32>, Refusal>
         ensures told { λ r. ⌜ told (λ (o : Option ℕ). o) r (spot (now (self .exit))) ≡ standing map 32 None (present (number 4)) (now (self .entry) .size) (spot (now (self .entry))) ⌝ }
         ensures size { λ r. ⌜ now (self .exit) .size ≡ now (self .entry) .size ⌝ }
     {
-        if stands(map, 32) { Ok(Some(self.long()?)) } else { Ok(None) }
+        if stands(map, 32) {
+            Ok(Some(self.long()?))
+        } else {
+            Ok(None)
+        }
     }
 
     fn destination(&mut self) -> Result<DestRecord<'a>, Refusal>
@@ -142,7 +162,10 @@ impl<'a> Fields<'a> {
         ensures told { λ r. ⌜ told destinations-of r (spot (now (self .exit))) ≡ repeated n destination-field (now (self .entry) .size) (spot (now (self .entry))) ⌝ }
         ensures size { λ r. ⌜ now (self .exit) .size ≡ now (self .entry) .size ⌝ }
     {
-        let all = Destinations { left: n, fields: *self };
+        let all = Destinations {
+            left: n,
+            fields: *self,
+        };
         for _k in 0..n {
             self.destination()?;
         }
@@ -154,7 +177,10 @@ impl<'a> Fields<'a> {
         ensures size { λ r. ⌜ now (self .exit) .size ≡ now (self .entry) .size ⌝ }
     {
         if !stands(map, 8) {
-            return Ok(Destinations { left: 0, fields: *self });
+            return Ok(Destinations {
+                left: 0,
+                fields: *self,
+            });
         }
         let n = self.ranged(1, 255)? as usize;
         self.destination_list(n)
@@ -173,7 +199,16 @@ impl<'a> Fields<'a> {
         let destinations = self.destinations(map)?;
         let flag = self.notrap(map)?;
         let location = self.location(map)?;
-        Ok(InstRecord { place, opcode, operands, immediate, results, destinations, flag, location })
+        Ok(InstRecord {
+            place,
+            opcode,
+            operands,
+            immediate,
+            results,
+            destinations,
+            flag,
+            location,
+        })
     }
 
     pub(crate) fn heading(&mut self) -> Result<BlockRecord<'a>, Refusal>
@@ -185,7 +220,11 @@ impl<'a> Fields<'a> {
         let map = self.ranged(2, 3)?;
         let params = self.type_list(map, 1)?;
         let insts = self.counted(Kind::Insts)?;
-        Ok(BlockRecord { place, params, insts })
+        Ok(BlockRecord {
+            place,
+            params,
+            insts,
+        })
     }
 
     pub(crate) fn order_entry(&mut self) -> Result<OrderRecord, Refusal>
@@ -196,9 +235,15 @@ impl<'a> Fields<'a> {
         let map = self.ranged(1, 2)?;
         let block = Block(self.word()?);
         if map == 1 {
-            return Ok(OrderRecord { place, entry: Entry::Block(block) });
+            return Ok(OrderRecord {
+                place,
+                entry: Entry::Block(block),
+            });
         }
         let index = self.byte()?;
-        Ok(OrderRecord { place, entry: Entry::Edge(block, index) })
+        Ok(OrderRecord {
+            place,
+            entry: Entry::Edge(block, index),
+        })
     }
 }

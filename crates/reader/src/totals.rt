@@ -41,11 +41,26 @@ impl Totals {
         ensures { λ r. ⌜ r ≡ raised kind n self ⌝ }
     {
         match kind {
-            Kind::Blocks => Totals { blocks: self.blocks + n, ..self },
-            Kind::Insts => Totals { insts: self.insts + n, ..self },
-            Kind::Values => Totals { values: self.values + n, ..self },
-            Kind::Operands => Totals { operands: self.operands + n, ..self },
-            Kind::Entries => Totals { entries: self.entries + n, ..self },
+            Kind::Blocks => Totals {
+                blocks: self.blocks + n,
+                ..self
+            },
+            Kind::Insts => Totals {
+                insts: self.insts + n,
+                ..self
+            },
+            Kind::Values => Totals {
+                values: self.values + n,
+                ..self
+            },
+            Kind::Operands => Totals {
+                operands: self.operands + n,
+                ..self
+            },
+            Kind::Entries => Totals {
+                entries: self.entries + n,
+                ..self
+            },
         }
     }
 }

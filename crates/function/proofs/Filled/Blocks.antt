@@ -34,7 +34,7 @@ module _ (s : Store) (a : Contents) (n : Numbers) (b : ℕ) where
       let p : length (map Some (a .blocks)) - 1 ≡ b = omega (arith, length-map (a .blocks) Some) in
       let q : length (map Some (a .values)) ≡ n .values = length-map (a .values) Some ∙ k .values in
       let u : pushed-all 4096 (uses-of x) (table 4096 (value-at 0) (a .uses)) .len - length (a .uses) ≡ length (uses-of x) =
-          rw (pushed-more (value-at 0) 4096 (uses-of x) (a .uses) (h .uses)) (omega (arith, length-append (a .uses) (uses-of x))) in
+      rw (pushed-more (value-at 0) 4096 (uses-of x) (a .uses) (h .uses)) (omega (arith, length-append (a .uses) (uses-of x))) in
       rw (p, q, u, k .uses)
 
   inst-is : (last : Bool) (x : Instruction) → Kept s a n (suc b) → Fits (a ⊕ of-inst b last n x)
@@ -50,7 +50,8 @@ module _ (s : Store) (a : Contents) (n : Numbers) (b : ℕ) where
         ∙ pushed-more None 128 (dest-places last n x) (a .destinations) (h .destinations)) i;
     order = store-with a [] .order;
     block-entries = store-with a [] .block-entries;
-    edge-entries = store-with a [] .edge-entries }
+    edge-entries = store-with a [] .edge-entries;
+  }
 
   inst-kept : (last : Bool) (x : Instruction) → Kept s a n (suc b) → Fits (a ⊕ of-inst b last n x)
       → Kept (store-inst last x s) (a ⊕ of-inst b last n x) (past-inst x n) (suc b)
@@ -59,7 +60,8 @@ module _ (s : Store) (a : Contents) (n : Numbers) (b : ℕ) where
     blocks = rw append-nil (k .blocks);
     insts = simp (length-append, k .insts);
     values = simp (length-append, length-defined, k .values);
-    uses = simp (length-append, k .uses) }
+    uses = simp (length-append, k .uses);
+  }
 
   -- the head of a block
   now-is : Kept s a n b → numbers-now (store-with a []) ≡ n
@@ -78,7 +80,8 @@ module _ (s : Store) (a : Contents) (n : Numbers) (b : ℕ) where
     destinations = table 128 None (sym (append-nil (a .destinations)) i);
     order = store-with a [] .order;
     block-entries = store-with a [] .block-entries;
-    edge-entries = store-with a [] .edge-entries }
+    edge-entries = store-with a [] .edge-entries;
+  }
 
   head-kept : (x : Body) → Kept s a n b → Fits (a ⊕ of-head b n x)
       → Kept (store-block (x .params) (length (x .insts)) s) (a ⊕ of-head b n x) (past-params x n) (suc b)
@@ -87,24 +90,25 @@ module _ (s : Store) (a : Contents) (n : Numbers) (b : ℕ) where
     blocks = length-push (a .blocks) _ ∙ omega arith;
     insts = rw append-nil (k .insts);
     values = simp (length-append, length-defined, k .values);
-    uses = rw append-nil (k .uses) }
+    uses = rw append-nil (k .uses);
+  }
 
 insts-kept : (xs : List Instruction) (s : Store) (a : Contents) (n : Numbers) (b : ℕ) → Kept s a n (suc b) → Fits (a ⊕ of-insts b n xs)
     → Kept (store-insts xs s) (a ⊕ of-insts b n xs) (past-insts xs n) (suc b)
 insts-kept [] s a n b k h = rw then-nothing k
 insts-kept (x ∷ xs) s a n b k h =
     in-turn (λ c. Kept (store-insts (x ∷ xs) s) c (past-insts (x ∷ xs) n) (suc b)) a (of-inst b (is-last xs) n x) (of-insts b (past-inst x n) xs) h
-        (λ first all. insts-kept xs _ _ _ b (inst-kept s a n b (is-last xs) x k first) all)
+    (λ first all. insts-kept xs _ _ _ b (inst-kept s a n b (is-last xs) x k first) all)
 
 body-kept : (x : Body) (s : Store) (a : Contents) (n : Numbers) (b : ℕ) → Kept s a n b → Fits (a ⊕ of-body b n x)
     → Kept (store-blocks (x ∷ []) s) (a ⊕ of-body b n x) (past-body x n) (suc b)
 body-kept x s a n b k h =
     in-turn (λ c. Kept (store-blocks (x ∷ []) s) c (past-body x n) (suc b)) a (of-head b n x) (of-insts b (past-params x n) (x .insts)) h
-        (λ first all. insts-kept (x .insts) _ _ _ b (head-kept s a n b x k first) all)
+    (λ first all. insts-kept (x .insts) _ _ _ b (head-kept s a n b x k first) all)
 
 pub blocks-are : (xs : List Body) (s : Store) (a : Contents) (n : Numbers) (b : ℕ) → Kept s a n b → Fits (a ⊕ of-blocks b n xs)
     → store-blocks xs s ≡ store-with (a ⊕ of-blocks b n xs) []
 blocks-are [] s a n b k h = rw then-nothing (k .is)
 blocks-are (x ∷ xs) s a n b k h =
     in-turn (λ c. store-blocks (x ∷ xs) s ≡ store-with c []) a (of-body b n x) (of-blocks (suc b) (past-body x n) xs) h
-        (λ first all. blocks-are xs _ _ _ (suc b) (body-kept x s a n b k first) all)
+    (λ first all. blocks-are xs _ _ _ (suc b) (body-kept x s a n b k first) all)

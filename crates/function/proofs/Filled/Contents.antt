@@ -33,7 +33,6 @@ abbrev pub nothing : Contents
 nothing = record { blocks = []; insts = []; values = []; uses = []; destinations = [] }
 
 infixl 50 _⊕_
-
 -- one after another
 abbrev pub _⊕_ : Contents → Contents → Contents
 _⊕_ a b = record {
@@ -41,7 +40,8 @@ _⊕_ a b = record {
   insts = a .insts ++ b .insts;
   values = a .values ++ b .values;
   uses = a .uses ++ b .uses;
-  destinations = a .destinations ++ b .destinations }
+  destinations = a .destinations ++ b .destinations;
+}
 
 pub then-nothing : (a : Contents) → a ⊕ nothing ≡ a
 then-nothing a = simp append-nil
@@ -63,7 +63,8 @@ fits-before a b h = record {
   insts = room-before _ (b .insts) 1024 (h .insts);
   values = room-before _ (b .values) 2048 (h .values);
   uses = room-before _ (b .uses) 4096 (h .uses);
-  destinations = room-before _ (b .destinations) 128 (h .destinations) }
+  destinations = room-before _ (b .destinations) 128 (h .destinations);
+}
 
 -- two are stored in turn: the first where there is room for it, then both
 pub in-turn : (P : Contents → Type 0) (a b c : Contents) → Fits (a ⊕ (b ⊕ c)) → (Fits (a ⊕ b) → Fits (a ⊕ b ⊕ c) → P (a ⊕ b ⊕ c)) → P (a ⊕ (b ⊕ c))
@@ -83,7 +84,8 @@ store-with a order = record {
   destinations = table 128 None (a .destinations);
   order = rows-table 128 order;
   block-entries = firsts names-block 64 order;
-  edge-entries = firsts names-place 128 order }
+  edge-entries = firsts names-place 128 order;
+}
 
 -- an instruction, several, the head of a block, and several blocks
 abbrev pub of-inst : ℕ → Bool → Numbers → Instruction → Contents
@@ -92,7 +94,8 @@ of-inst b last n x = record {
   insts = inst-row b last n x ∷ [];
   values = defined (Result (inst-number (n .insts))) 0 (x .results);
   uses = uses-of x;
-  destinations = dest-places last n x }
+  destinations = dest-places last n x;
+}
 
 abbrev pub of-insts : ℕ → Numbers → List Instruction → Contents
 of-insts b n xs = record {
@@ -100,7 +103,8 @@ of-insts b n xs = record {
   insts = over-insts (λ last m x. of-inst b last m x .insts) n xs;
   values = over-insts (λ last m x. of-inst b last m x .values) n xs;
   uses = over-insts (λ last m x. of-inst b last m x .uses) n xs;
-  destinations = over-insts (λ last m x. of-inst b last m x .destinations) n xs }
+  destinations = over-insts (λ last m x. of-inst b last m x .destinations) n xs;
+}
 
 abbrev pub of-head : ℕ → Numbers → Body → Contents
 of-head b n x = record {
@@ -108,7 +112,8 @@ of-head b n x = record {
   insts = [];
   values = defined (Param (block-at b)) 0 (x .params);
   uses = [];
-  destinations = [] }
+  destinations = [];
+}
 
 abbrev pub of-body : ℕ → Numbers → Body → Contents
 of-body b n x = of-head b n x ⊕ of-insts b (past-params x n) (x .insts)
@@ -119,4 +124,5 @@ of-blocks b n xs = record {
   insts = over-blocks (λ c m x. of-body c m x .insts) b n xs;
   values = over-blocks (λ c m x. of-body c m x .values) b n xs;
   uses = over-blocks (λ c m x. of-body c m x .uses) b n xs;
-  destinations = over-blocks (λ c m x. of-body c m x .destinations) b n xs }
+  destinations = over-blocks (λ c m x. of-body c m x .destinations) b n xs;
+}

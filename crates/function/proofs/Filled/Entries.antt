@@ -70,7 +70,7 @@ first-more test e [] x = rw add-zero
 first-more test e (y ∷ ys) x = go (test y) (first-more test (suc e) ys x)
   where
     go : (b : Bool) → first-entry test (suc e) (ys ++ x ∷ []) ≡ or-else (first-entry test (suc e) ys) (cond (test x) (Some (suc e + length ys)) None)
-       → cond b (Some e) (first-entry test (suc e) (ys ++ x ∷ [])) ≡ or-else (cond b (Some e) (first-entry test (suc e) ys)) (cond (test x) (Some (e + suc (length ys))) None)
+        → cond b (Some e) (first-entry test (suc e) (ys ++ x ∷ [])) ≡ or-else (cond b (Some e) (first-entry test (suc e) ys)) (cond (test x) (Some (e + suc (length ys))) None)
     go true ih = refl
     go false ih = let k : suc e + length ys ≡ e + suc (length ys) = omega arith in rw (← k) ih
 
@@ -92,8 +92,8 @@ module _ (test : ℕ → Entry → Bool) (n : ℕ) (done : List Entry) (x : Entr
   one-first i here others =
       noted-written i (length done) (firsts test n done)
       ∙ ap (λ (xs : List (Option ℕ)). record { rows = xs; len = 0 }) (set-by-index _ _ n i _
-          (λ h. rw (getD-by-index (λ j. first-entry (test j) 0 done) n i None h) (sym (first-more (test i) 0 done x ∙ rw (here, zero-add))))
-          (λ j h. same-first j (others j h)))
+      (λ h. rw (getD-by-index (λ j. first-entry (test j) 0 done) n i None h) (sym (first-more (test i) 0 done x ∙ rw (here, zero-add))))
+      (λ j h. same-first j (others j h)))
 
 pub block-noted : (n : ℕ) (done : List Entry) (x : Entry) → noted-block x (length done) (firsts names-block n done) ≡ firsts names-block n (done ++ x ∷ [])
 block-noted n done (to-block b) = one-first names-block n done (to-block b) (b .0) (eq-eqb _ _ refl) (λ j h. ne-eqb (b .0) j (λ e. h (sym e)))
@@ -107,9 +107,9 @@ pub edge-noted : (n : ℕ) (done : List Entry) (x : Entry) → noted-edge x (len
 edge-noted n done (to-block b) = none-first names-place n done (to-block b) (λ i. refl)
 edge-noted n done (to-edge b k) = cond-both (ltb k 2) _ _ (λ c. c ≡ firsts names-place n (done ++ to-edge b k ∷ []))
     (λ e. let l = ltb-true k 2 e in one-first names-place n done (to-edge b k) (2 * b .0 + k)
-        (and-from _ _ (eq-eqb (b .0) _ (omega arith)) (eq-eqb k _ (omega arith)))
-        (λ j h. ⊎-elim
-            (λ (p : b .0 ≡ j / 2). and-right _ _ (ne-eqb k (j % 2) (λ q. h (omega arith))))
-            (λ p. and-left _ _ (ne-eqb (b .0) (j / 2) p))
-            (cases-eq (b .0) (j / 2))))
+    (and-from _ _ (eq-eqb (b .0) _ (omega arith)) (eq-eqb k _ (omega arith)))
+    (λ j h. ⊎-elim
+    (λ (p : b .0 ≡ j / 2). and-right _ _ (ne-eqb k (j % 2) (λ q. h (omega arith))))
+    (λ p. and-left _ _ (ne-eqb (b .0) (j / 2) p))
+    (cases-eq (b .0) (j / 2))))
     (λ e. let l = ltb-false k 2 e in none-first names-place n done (to-edge b k) (λ i. and-right _ _ (ne-eqb k (i % 2) (omega arith))))

@@ -50,22 +50,33 @@ two-places-each n (x ∷ y ∷ ys) h = two-places-each (past-inst x n) (y ∷ ys
 
 module _ (f : Func) (w : Within f) where
   over : {X : Type 0} (g : ℕ → Numbers → Body → List X) (size : Body → ℕ) → ((b : ℕ) (n : Numbers) (x : Body) → Fits-body x → length (g b n x) ≡ size x)
-       → length (over-blocks g 0 none-before (f .blocks)) ≡ sum-of size (f .blocks)
+      → length (over-blocks g 0 none-before (f .blocks)) ≡ sum-of size (f .blocks)
   over g size h = length-over-blocks g size h 0 none-before (f .blocks) (w .each-block)
 
   pub values-count : length (value-rows f) ≡ sum-of body-values (f .blocks)
   values-count = over (λ b n x. of-body b n x .values) body-values
       (λ b n x h. length-both _ _ (length-defined _ 0 (x .params))
-          (length-over-insts (λ last m i. of-inst b last m i .values) (λ i. length (i .results)) (λ last m i. length-defined _ 0 (i .results)) (past-params x n) (x .insts)))
+      (length-over-insts (λ last m i. of-inst b last m i .values) (λ i. length (i .results)) (λ last m i. length-defined _ 0 (i .results)) (past-params x n) (x .insts)))
 
   pub all-fits : Fits (of-blocks 0 none-before (f .blocks))
   all-fits = record {
     blocks = omega (arith, over (λ b n x. of-body b n x .blocks) (λ x. 1) (λ b n x h. refl), sum-same 1 (f .blocks));
-    insts = omega (arith, over (λ b n x. of-body b n x .insts) (λ x. length (x .insts))
-        (λ b n x h. let e = sum-same 1 (x .insts) in
-            length-over-insts (λ last m i. of-inst b last m i .insts) (λ i. 1) (λ last m i. refl) (past-params x n) (x .insts) ∙ omega arith));
+    insts = omega (
+      arith,
+      over (λ b n x. of-body b n x .insts) (λ x. length (x .insts))
+          (λ b n x h. let e = sum-same 1 (x .insts) in
+          length-over-insts (λ last m i. of-inst b last m i .insts) (λ i. 1) (λ last m i. refl) (past-params x n) (x .insts) ∙ omega arith),
+    );
     values = omega (arith, values-count);
-    uses = omega (arith, over (λ b n x. of-body b n x .uses) body-uses
-        (λ b n x h. length-over-insts (λ last m i. uses-of i) uses-in (λ last m i. length-uses i) (past-params x n) (x .insts)));
-    destinations = omega (arith, over (λ b n x. of-body b n x .destinations) (λ x. 2)
-        (λ b n x h. two-places-each _ (x .insts) (h .some-inst)), sum-same 2 (f .blocks)) }
+    uses = omega (
+      arith,
+      over (λ b n x. of-body b n x .uses) body-uses
+          (λ b n x h. length-over-insts (λ last m i. uses-of i) uses-in (λ last m i. length-uses i) (past-params x n) (x .insts)),
+    );
+    destinations = omega (
+      arith,
+      over (λ b n x. of-body b n x .destinations) (λ x. 2)
+          (λ b n x h. two-places-each _ (x .insts) (h .some-inst)),
+      sum-same 2 (f .blocks),
+    );
+  }

@@ -31,7 +31,8 @@ module _ (a : Contents) where
         destinations = store-with a [] .destinations;
         order = pushed-rows 128 _ _ done refl h i;
         block-entries = (ap (λ e. noted-block x e (firsts names-block 64 done)) l ∙ block-noted 64 done x) i;
-        edge-entries = (ap (λ e. noted-edge x e (firsts names-place 128 done)) l ∙ edge-noted 128 done x) i }
+        edge-entries = (ap (λ e. noted-edge x e (firsts names-place 128 done)) l ∙ edge-noted 128 done x) i;
+      }
 
   order-is : (xs done : List Entry) → length (done ++ xs) ≤ 128 → store-order xs (store-with a done) ≡ store-with a (done ++ xs)
   order-is [] done h = ap (store-with a) (sym (append-nil done))

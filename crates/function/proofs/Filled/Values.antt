@@ -38,7 +38,7 @@ numbers-pushed (suc k) m h =
     let l = length-values 0 m in
     let e : m + suc k ≡ suc m + k = omega arith in
     ap (push-numbers k) (pushed-one (value-at 0) 2048 (values-from 0 m) (value-at (length (values-from 0 m))) (omega arith)
-        ∙ ap (table 2048 (value-at 0)) (ap (λ j. values-from 0 m ++ value-at j ∷ []) (l ∙ sym (zero-add m)) ∙ values-push 0 m))
+    ∙ ap (table 2048 (value-at 0)) (ap (λ j. values-from 0 m ++ value-at j ∷ []) (l ∙ sym (zero-add m)) ∙ values-push 0 m))
     ∙ rw e (numbers-pushed k (suc m) (omega arith))
 
 pub numbers-defined : (def : ℕ → ValueDef) (ts : List Ty) (vs : List ValueData) → length (vs ++ defined def 0 ts) ≤ 2048
@@ -54,7 +54,7 @@ placed-is (d ∷ ds) us h =
     let g = rw (← append-assoc) at h in
     let q = room-before (us ++ d .args) (joined (λ d. d .args) ds) 4096 g in
     ap (λ rows. record { target = d .target; «first_arg» = length us; args = length (d .args) } ∷ rows)
-        (ap (placed ds) (pushed-more (value-at 0) 4096 (d .args) us q) ∙ placed-is ds (us ++ d .args) g ∙ ap (λ u. dest-rows u ds) (length-append us (d .args)))
+    (ap (placed ds) (pushed-more (value-at 0) 4096 (d .args) us q) ∙ placed-is ds (us ++ d .args) g ∙ ap (λ u. dest-rows u ds) (length-append us (d .args)))
 
 two-are : (last : Bool) (n : Numbers) (x : Instruction) → two-places last (dest-rows (n .uses + length (x .operands)) (x .destinations)) ≡ dest-places last n x
 two-are true n x = refl

@@ -84,10 +84,11 @@ record Place (xs : List Body) (i : ℕ) : Type 0 where
 place : (xs : List Body) (i : ℕ) → i < length (insts-in xs) → Place xs i
 place [] i h = absurd (omega arith)
 place (x ∷ xs) i h = elim (cases-lt i (length (x .insts))) [
-    inl l ↦ record { k = 0; j = i; below = omega arith; inside = l; is = omega arith }
+  | inl l ↦ record { k = 0; j = i; below = omega arith; inside = l; is = omega arith }
   | inr l ↦
       let p = place xs (i - length (x .insts)) (omega (arith, length-append (x .insts) (insts-in xs))) in
-      record { k = suc (p .k); j = p .j; below = omega arith; inside = p .inside; is = omega arith } ]
+      record { k = suc (p .k); j = p .j; below = omega arith; inside = p .inside; is = omega arith }
+]
 
 module _ (f : Func) where
   -- instruction i stands in block b

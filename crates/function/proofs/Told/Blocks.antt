@@ -31,7 +31,7 @@ module _ (g : Function) (f : Func) (h : Shows g f) where
     told : {Z : Type 0} (P Q : Option BlockData → Z) → P None ≡ Q None → ((r : BlockData) (x : Body) → Row r x → P (Some r) ≡ Q (Some r)) → P o ≡ Q (nth (block-rows f) b)
     told P Q none some =
         both-elim Row (λ p q. P p ≡ Q p) none some o (nth (f .blocks) b)
-          (subst (λ p. Both Row p (nth (f .blocks) b)) (sym row) (each-nth Row (block-rows f) (f .blocks) (blocks-match g f h) b))
+        (subst (λ p. Both Row p (nth (f .blocks) b)) (sym row) (each-nth Row (block-rows f) (f .blocks) (blocks-match g f h) b))
         ∙ ap Q row
 
     pub params-told : list-in o (λ r. take (r .params) (drop (r .«first_param») (held g .numbers .rows))) ≡ params-of f b
@@ -56,8 +56,8 @@ module _ (g : Function) (f : Func) (h : Shows g f) where
       let ds = all-destinations f in
       let d = option-in (ending-of f b) (λ x. nth (x .destinations) k) in
       let at : o ≡ getD ds (2 * b + k) None =
-          e ∙ place-read None 128 ds (held g .destinations) (ap (λ s. s .destinations) (h .holds)) (room g f h .destinations) j ∙ ap (λ i. getD ds i None) q in
+      e ∙ place-read None 128 ds (held g .destinations) (ap (λ s. s .destinations) (h .holds)) (room g f h .destinations) j ∙ ap (λ i. getD ds i None) q in
       both-elim (Dest-of us) (λ p c. mapped handed p ≡ c) refl
-        (λ r x t. ap₂ (λ a xs. Some (record { target = a; args = xs })) (t .target) (uses-shown g f h (r .«first_arg») (r .args) (x .args) (t .args)))
-        o d (subst (λ p. Both (Dest-of us) p d) (sym at) (dest-at us k l b 0 none-before (f .blocks) (h .within .each-block) (part-whole us)))
+      (λ r x t. ap₂ (λ a xs. Some (record { target = a; args = xs })) (t .target) (uses-shown g f h (r .«first_arg») (r .args) (x .args) (t .args)))
+      o d (subst (λ p. Both (Dest-of us) p d) (sym at) (dest-at us k l b 0 none-before (f .blocks) (h .within .each-block) (part-whole us)))
       ∙ cond-below k 2 d None l

@@ -70,5 +70,5 @@ module _ (g : Function) (f : Func) (h : Shows g f) (i : ℕ) (o : Option InstDat
   results-told =
       let values : InstData → List Value = λ r. values-from (r .«first_result») (r .results) in
       both-elim Row (λ p q. list-in p (λ r. take (r .results) (drop (r .«first_result») (held g .numbers .rows))) ≡ list-in p values) refl
-        (λ r x t. numbers-shown g f h (r .«first_result») (r .results) (t .results)) o (inst-of f i) match
+      (λ r x t. numbers-shown g f h (r .«first_result») (r .results) (t .results)) o (inst-of f i) match
       ∙ ap (λ p. list-in p values) row

@@ -106,17 +106,17 @@ module _ (us : List Value) where
       let here = over-insts dest-places m (x .insts) in
       let two = two-places-each m (x .insts) (w .0 .some-inst) in
       let e : getD (blocks-dests b n (x ∷ xs)) (2 * 0 + k) None ≡ getD here k None =
-          ap (λ j. getD (blocks-dests b n (x ∷ xs)) j None) (omega arith) ∙ getD-append-left here _ None k (omega arith) in
+      ap (λ j. getD (blocks-dests b n (x ∷ xs)) j None) (omega arith) ∙ getD-append-left here _ None k (omega arith) in
       subst (λ o. Both (Dest-of us) o (option-in (final (x .insts)) (λ y. nth (y .destinations) k))) (sym e)
-        (last-dest k h m (x .insts) (w .0 .some-inst) (part-front us (n .uses) (insts-uses m (x .insts)) _ p))
+      (last-dest k h m (x .insts) (w .0 .some-inst) (part-front us (n .uses) (insts-uses m (x .insts)) _ p))
   dest-at k h (suc i) b n (x ∷ xs) w p =
       let m = past-params x n in
       let here = over-insts dest-places m (x .insts) in
       let e : getD (blocks-dests b n (x ∷ xs)) (2 * suc i + k) None ≡ getD (blocks-dests (suc b) (past-body x n) xs) (2 * i + k) None =
-          getD-append-right here _ 2 (2 * suc i + k) None (two-places-each m (x .insts) (w .0 .some-inst)) (omega arith)
-          ∙ ap (λ j. getD (blocks-dests (suc b) (past-body x n) xs) j None) (omega arith) in
+      getD-append-right here _ 2 (2 * suc i + k) None (two-places-each m (x .insts) (w .0 .some-inst)) (omega arith)
+      ∙ ap (λ j. getD (blocks-dests (suc b) (past-body x n) xs) j None) (omega arith) in
       subst (λ o. Both (Dest-of us) o (option-in (option-in (nth xs i) (λ y. final (y .insts))) (λ y. nth (y .destinations) k))) (sym e)
-        (dest-at k h i (suc b) (past-body x n) xs (w .1) (block-back b n x xs p))
+      (dest-at k h i (suc b) (past-body x n) xs (w .1) (block-back b n x xs p))
 
   -- the rows of instructions, block by block
   module _ (v : ℕ) where
@@ -125,11 +125,19 @@ module _ (us : List Value) where
     insts-each b n [] p h = tt
     insts-each b n (x ∷ xs) p h =
         let m = past-inst x n in
-        let q = part-front us (n .uses) (uses-of x) (insts-uses m xs) p in
-        (record {
-           opcode = refl; immediate = refl; flag = refl; location = refl; destinations = refl;
-           operands = part-front us (n .uses) (x .operands) (joined (λ d. d .args) (x .destinations)) q; uses = q; results = omega arith },
-         insts-each b m xs (part-back us (n .uses) (uses-of x) (insts-uses m xs) p) (omega arith))
+        let q = part-front us (n .uses) (uses-of x) (insts-uses m xs) p in (
+          record {
+            opcode = refl;
+            immediate = refl;
+            flag = refl;
+            location = refl;
+            destinations = refl;
+            operands = part-front us (n .uses) (x .operands) (joined (λ d. d .args) (x .destinations)) q;
+            uses = q;
+            results = omega arith;
+          },
+          insts-each b m xs (part-back us (n .uses) (uses-of x) (insts-uses m xs) p) (omega arith),
+        )
 
     pub rows-each : (b : ℕ) (n : Numbers) (xs : List Body) → Stands us (n .uses) (blocks-uses b n xs) → n .values + sum-of body-values xs ≤ v
         → Each (Row-of us v) (over-blocks (λ c m x. over-insts (λ last k i. inst-row c last k i ∷ []) (past-params x m) (x .insts)) b n xs) (joined (λ x. x .insts) xs)
@@ -138,5 +146,5 @@ module _ (us : List Value) where
         let m = past-params x n in
         let e = past-counts (x .insts) m in
         each-append (Row-of us v) _ (x .insts) _ (joined (λ y. y .insts) xs)
-          (insts-each b m (x .insts) (part-front us (n .uses) (insts-uses m (x .insts)) _ p) (omega arith))
-          (rows-each (suc b) (past-body x n) xs (block-back b n x xs p) (omega arith))
+        (insts-each b m (x .insts) (part-front us (n .uses) (insts-uses m (x .insts)) _ p) (omega arith))
+        (rows-each (suc b) (past-body x n) xs (block-back b n x xs p) (omega arith))

@@ -87,14 +87,16 @@ module _ {E : Type 0} (us : List E) where
     part-front =
         let l = length-append xs ys in record {
           within = omega (arith, p .within);
-          is = sym (take-take (length xs) (length (xs ++ ys)) (drop a us) (omega arith)) ∙ ap (take (length xs)) (p .is) ∙ take-at xs ys _ refl }
+          is = sym (take-take (length xs) (length (xs ++ ys)) (drop a us) (omega arith)) ∙ ap (take (length xs)) (p .is) ∙ take-at xs ys _ refl;
+        }
 
     pub part-back : Stands us (a + length xs) ys
     part-back =
         let l = length-append xs ys in record {
           within = omega (arith, p .within);
           is = ap (take (length ys)) (sym (drop-drop (length xs) a us)) ∙ sym (drop-take (length xs) (length ys) (drop a us))
-              ∙ ap (drop (length xs)) (ap (λ k. take k (drop a us)) (sym l) ∙ p .is) ∙ drop-at xs ys _ refl }
+              ∙ ap (drop (length xs)) (ap (λ k. take k (drop a us)) (sym l) ∙ p .is) ∙ drop-at xs ys _ refl;
+        }
 
 -- a part of the values
 take-values : (k n v : ℕ) → k ≤ n → take k (values-from v n) ≡ values-from v k
@@ -110,4 +112,5 @@ drop-values (suc a) (suc n) v h = drop-values a n (suc v) (omega arith) ∙ ap�
 pub values-part : (n a k : ℕ) → a + k ≤ n → Part (values-from 0 n) a k (values-from a k)
 values-part n a k h = record {
   within = omega (arith, length-values 0 n);
-  is = ap (take k) (drop-values a n 0 (omega arith) ∙ ap (λ v. values-from v (n - a)) (add-zero a)) ∙ take-values k (n - a) a (omega arith) }
+  is = ap (take k) (drop-values a n 0 (omega arith) ∙ ap (λ v. values-from v (n - a)) (add-zero a)) ∙ take-values k (n - a) a (omega arith);
+}

@@ -35,7 +35,7 @@ module _ (g : Function) (f : Func) (h : Shows g f) where
   numbers-shown a k l =
       let n = length (value-rows f) in
       part-read (value-at 0) 2048 (values-from 0 n) (held g .numbers) (ap (λ s. s .numbers) (h .holds)) (omega (arith, length-values 0 n, room .values))
-        a k (values-from a k) (values-part n a k l)
+      a k (values-from a k) (values-part n a k l)
 
   -- the rows of blocks and of instructions
   pub blocks-match : Each (Block-of (length (value-rows f))) (block-rows f) (f .blocks)

@@ -16,7 +16,7 @@ returns-then-not-row-fits c = λ f h.
     let n = c .num-insts-n .result in
     let i = c .loop-i .i in
     sym (ap (λ m. first-fault (inst-tests f 0 m)) (sym (c .num-insts-n .ensures .value f h)) ∙ c .loop-i .inv f h
-      ∙ insts-row f n i (c .loop-i-test .taken) (sym (c .row-fits .ensures f h) ∙ c .if-not-row-fits .taken))
+    ∙ insts-row f n i (c .loop-i-test .taken) (sym (c .row-fits .ensures f h) ∙ c .if-not-row-fits .taken))
 
 pub returns-then-not-numbers-fit : need.returns-then-not-numbers-fit
 returns-then-not-numbers-fit c = λ f h.
@@ -25,7 +25,7 @@ returns-then-not-numbers-fit c = λ f h.
     let row = sym (c .row-fits .ensures f h) ∙ c .if-not-row-fits .left in
     let l : i < length (all-insts f) = omega (arith, c .num-insts-n .ensures .value f h, c .loop-i-test .taken) in
     sym (ap (λ m. first-fault (inst-tests f 0 m)) (sym (c .num-insts-n .ensures .value f h)) ∙ c .loop-i .inv f h
-      ∙ insts-numbers f n i (c .loop-i-test .taken) row (sym (c .numbers-fit .ensures f h l row) ∙ c .if-not-numbers-fit .taken))
+    ∙ insts-numbers f n i (c .loop-i-test .taken) row (sym (c .numbers-fit .ensures f h l row) ∙ c .if-not-numbers-fit .taken))
 
 pub loop-i-again : need.loop-i-again
 loop-i-again c = λ f h.

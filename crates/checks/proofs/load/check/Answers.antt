@@ -16,13 +16,13 @@ pub returns-in-Break-check-order : need.returns-in-Break-check-order
 returns-in-Break-check-order c =
     let p = err-from-errBy (c .from-residual-in-Break-check-order .result) (c .from-residual-in-Break-check-order .ensures .1) in
     rw (p .1, p .2) (λ f h.
-      let a = sym (c .in-Continue-check-insts .ensures tt f h) in
-      sym (fault-behind (inst-tests f 0 (length (all-insts f))) _ a
-        ∙ fault-before (entry-tests f 0 (length (f .order))) _ _ (sym (c .in-Break-check-order .ensures tt f h a))))
+    let a = sym (c .in-Continue-check-insts .ensures tt f h) in
+    sym (fault-behind (inst-tests f 0 (length (all-insts f))) _ a
+    ∙ fault-before (entry-tests f 0 (length (f .order))) _ _ (sym (c .in-Break-check-order .ensures tt f h a))))
 
 pub returns : need.returns
 returns c = λ f h.
     let a = sym (c .in-Continue-check-insts .ensures tt f h) in
     c .check-uses .ensures f h
     ∙ sym (fault-behind (inst-tests f 0 (length (all-insts f))) (entry-tests f 0 (length (f .order)) ++ uses-tests f 0 (length (all-insts f))) a
-      ∙ fault-behind (entry-tests f 0 (length (f .order))) (uses-tests f 0 (length (all-insts f))) (sym (c .in-Continue-check-order .ensures tt f h a)))
+    ∙ fault-behind (entry-tests f 0 (length (f .order))) (uses-tests f 0 (length (all-insts f))) (sym (c .in-Continue-check-order .ensures tt f h a)))

@@ -13,10 +13,10 @@ pub returns-then-is-err : need.returns-then-is-err
 returns-then-is-err c =
     let (f, r, w, h) = c .in-Continue-fill .ensures tt .filled in
     loaded-refused (c .args .file .now) (c .fill .ensures .law) f r (c .check-tables-answer .result) (c .clear .last .self)
-      (sym (c .is-err .ensures .value) ∙ c .if-is-err .taken) (c .check-tables-answer .ensures f w h) (c .clear .ensures)
+    (sym (c .is-err .ensures .value) ∙ c .if-is-err .taken) (c .check-tables-answer .ensures f w h) (c .clear .ensures)
 
 pub returns-else-is-err : need.returns-else-is-err
 returns-else-is-err c =
     let (f, r, w, h) = c .in-Continue-fill .ensures tt .filled in
     loaded-taken (c .args .file .now) (c .fill .ensures .law) f r (c .check-tables-answer .result) (c .fill .last .self)
-      (sym (c .is-err .ensures .value) ∙ c .if-is-err .left) (c .check-tables-answer .ensures f w h) h
+    (sym (c .is-err .ensures .value) ∙ c .if-is-err .left) (c .check-tables-answer .ensures f w h) h

@@ -11,4 +11,4 @@ returns c = λ f h l t.
     let (x, b, ix, bx) = inst-there f i l in
     c .both .ensures
     ∙ numbers-at f i x b (c .values-exist .result) (c .destinations-fit .result) ix bx (λ e. last-is-ending f i b e bx) t
-        (c .values-exist .ensures f h ∙ ap (all-pass (value-exists f)) (c .inst-uses .ensures f h)) (c .destinations-fit .ensures f h)
+    (c .values-exist .ensures f h ∙ ap (all-pass (value-exists f)) (c .inst-uses .ensures f h)) (c .destinations-fit .ensures f h)

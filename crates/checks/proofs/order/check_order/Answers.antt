@@ -12,7 +12,7 @@ loop-e-holds c = λ f h p. let e : c .num-entries-n .result - 0 ≡ c .num-entri
 pub returns-then-not-entry-passes : need.returns-then-not-entry-passes
 returns-then-not-entry-passes c = λ f h p.
     sym (ap (λ m. first-fault (entry-tests f 0 m)) (sym (c .num-entries-n .ensures .value f h)) ∙ c .loop-e .inv f h p
-      ∙ entries-stop f (c .num-entries-n .result) (c .loop-e .e) (c .loop-e-test .taken) (sym (c .entry-passes .ensures f h p) ∙ c .if-not-entry-passes .taken))
+    ∙ entries-stop f (c .num-entries-n .result) (c .loop-e .e) (c .loop-e-test .taken) (sym (c .entry-passes .ensures f h p) ∙ c .if-not-entry-passes .taken))
 
 pub loop-e-again : need.loop-e-again
 loop-e-again c = λ f h p.

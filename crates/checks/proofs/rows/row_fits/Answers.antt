@@ -10,8 +10,8 @@ returns c = λ f h.
     let i = c .args .inst .0 in
     c .both .ensures
     ∙ row-told f (inst-of f i) (last-of f i) (results-of f i) (c .in-Some .opcode) (c .row .result) _ (c .shape-fits .result) (c .constant-fits .result)
-        (sym (c .in-Some .is) ∙ c .opcode .ensures f h) (c .row .ensures)
-        (same-shape _ (shape-in (inst-of f i) (last-of f i) (results-of f i))
-          (ap length (c .inst-args .ensures f h)) (ap length (c .inst-results .ensures f h)) (c .num-destinations .ensures f h)
-          (c .is-some .ensures ∙ ap isSome (c .immediate .ensures f h)) (c .is-some-2 .ensures ∙ ap isSome (c .flag .ensures f h)) (c .is-last .ensures f h))
-        (c .shape-fits .ensures) (c .constant-fits .ensures f h)
+    (sym (c .in-Some .is) ∙ c .opcode .ensures f h) (c .row .ensures)
+    (same-shape _ (shape-in (inst-of f i) (last-of f i) (results-of f i))
+    (ap length (c .inst-args .ensures f h)) (ap length (c .inst-results .ensures f h)) (c .num-destinations .ensures f h)
+    (c .is-some .ensures ∙ ap isSome (c .immediate .ensures f h)) (c .is-some-2 .ensures ∙ ap isSome (c .flag .ensures f h)) (c .is-last .ensures f h))
+    (c .shape-fits .ensures) (c .constant-fits .ensures f h)

@@ -41,7 +41,7 @@ loop-v-again c = λ f h.
     let vs = c .inst-uses-v-items .result .now in
     let k = c .loop-v .v-index in
     c .loop-v .inv f h ∙ pass-more (value-before f (c .loop-b .b) (c .loop-i .i)) vs k (value-at 0) (getD vs k (value-at 0)) (c .loop-v-test .taken) refl
-      (sym (c .value-before .ensures f h) ∙ c .if-not-value-before .left)
+    (sym (c .value-before .ensures f h) ∙ c .if-not-value-before .left)
 
 pub loop-i-again : need.loop-i-again
 loop-i-again c = λ f h.
@@ -80,12 +80,12 @@ returns-then-not-value-before c = λ f h.
     let g : i < end-of f b = omega (arith, c .loop-i-test .taken, c .min-end .ensures, c .block-end .ensures f h) in
     let s : first-of f b ≤ i = omega (arith, c .loop-i .kept .i, c .block-first-i .ensures f h) in
     let none = sym (ap (all-pass test) (c .inst-uses-v-items .ensures f h)) ∙ c .loop-v .inv f h
-             ∙ pass-stop test vs k (value-at 0) (getD vs k (value-at 0)) (c .loop-v-test .taken) refl (sym (c .value-before .ensures f h) ∙ c .if-not-value-before .taken) in
+    ∙ pass-stop test vs k (value-at 0) (getD vs k (value-at 0)) (c .loop-v-test .taken) refl (sym (c .value-before .ensures f h) ∙ c .if-not-value-before .taken) in
     sym (whole f n (c .num-insts-insts .ensures .value f h) ∙ c .loop-i .inv f h
-      ∙ uses-stop f n i (omega (arith, c .loop-i-test .taken, c .min-end .ensures)) (ordered-test f b i l s g (sym (ap isSome (c .block-entry .ensures f h)) ∙ c .if-is-none .ensures tt) ∙ none))
+    ∙ uses-stop f n i (omega (arith, c .loop-i-test .taken, c .min-end .ensures)) (ordered-test f b i l s g (sym (ap isSome (c .block-entry .ensures f h)) ∙ c .if-is-none .ensures tt) ∙ none))
 
 pub returns-after-loop-b : need.returns-after-loop-b
 returns-after-loop-b c = λ f h.
     let n = c .num-insts-insts .result in
     sym (whole f n (c .num-insts-insts .ensures .value f h) ∙ c .loop-b .inv f h
-      ∙ uses-end f n (start-of f (c .loop-b .b)) (omega (arith, start-behind f (c .loop-b .b) (omega (arith, c .num-blocks-blocks .ensures .value f h, c .loop-b-test .left)), c .num-insts-insts .ensures .value f h)))
+    ∙ uses-end f n (start-of f (c .loop-b .b)) (omega (arith, start-behind f (c .loop-b .b) (omega (arith, c .num-blocks-blocks .ensures .value f h, c .loop-b-test .left)), c .num-insts-insts .ensures .value f h)))

@@ -23,10 +23,11 @@ loop-d-again c =
     let ds = destinations-of (c .next .last .self) in
     let all = destinations-of (c .loop-d .rest) in
     let u = cells (c .loop-d .uses) in
-    let v = cells (c .push-words .last .uses) in
-    (omega (arith, c .loop-d .inv .0, c .in-Some .ensures tt .falls, ap (λ k. k .count) (c .add .ensures)),
-     dest-row-next d ds all u v (c .in-Some .ensures tt .hands) (c .push-words .ensures) (c .loop-d .seen) (c .add .last .self) (c .len .result) (c .len .ensures .value) (c .add .ensures) ∙ c .loop-d .inv .1,
-     dest-args-next d ds all u v (c .in-Some .ensures tt .hands) (c .push-words .ensures) ∙ c .loop-d .inv .2)
+    let v = cells (c .push-words .last .uses) in (
+      omega (arith, c .loop-d .inv .0, c .in-Some .ensures tt .falls, ap (λ k. k .count) (c .add .ensures)),
+      dest-row-next d ds all u v (c .in-Some .ensures tt .hands) (c .push-words .ensures) (c .loop-d .seen) (c .add .last .self) (c .len .result) (c .len .ensures .value) (c .add .ensures) ∙ c .loop-d .inv .1,
+      dest-args-next d ds all u v (c .in-Some .ensures tt .hands) (c .push-words .ensures) ∙ c .loop-d .inv .2,
+    )
 
 pub returns : need.returns
 returns c =
@@ -34,4 +35,5 @@ returns c =
     let none = c .in-rest .ensures tt .hands in
     record {
       kept = gather-is (c .loop-d .seen) _ (sym (ap (λ ds. gather (c .loop-d .seen) (placed ds u)) none) ∙ c .loop-d .inv .1);
-      pushed = sym (ap (λ ds. pushed-all 4096 (joined (λ d. d .args) ds) u) none) ∙ c .loop-d .inv .2 }
+      pushed = sym (ap (λ ds. pushed-all 4096 (joined (λ d. d .args) ds) u) none) ∙ c .loop-d .inv .2;
+    }

@@ -14,5 +14,6 @@ returns c =
     record {
       kept = rw e at (c .push-destinations .ensures .kept);
       pushed = c .push-destinations .ensures .pushed
-        ∙ ap (λ k. pushed-all 4096 (joined (λ d. d .args) ds) k) e
-        ∙ sym (pushed-append 4096 (words-of (c .args .operands .now)) (joined (λ d. d .args) ds) (cells (c .args .uses .now))) }
+          ∙ ap (λ k. pushed-all 4096 (joined (λ d. d .args) ds) k) e
+          ∙ sym (pushed-append 4096 (words-of (c .args .operands .now)) (joined (λ d. d .args) ds) (cells (c .args .uses .now)));
+    }

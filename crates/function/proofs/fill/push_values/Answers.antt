@@ -17,14 +17,15 @@ add-k c = record { fits = omega (arith, c .loop-b .inv .0) }
 
 pub loop-b-again : need.loop-b-again
 loop-b-again c = elim (c .match-from-number .came) [
-    in-Some w ↦
+  | in-Some w ↦
       let p = values-some (c .args .def) (c .args .types .now) (c .loop-b .b-index) (c .loop-b .k) (c .match-from-number .k) (w .in-Some .ty) (w .at .result) (cells (c .loop-b .values)) (cells (c .match-from-number .values))
-            (c .loop-b-test .taken) (sym (w .in-Some .is) ∙ c .from-number .ensures) (w .k-is) (w .at .ensures) (ap cells (w .values-is) ∙ w .push .ensures) in
+      (c .loop-b-test .taken) (sym (w .in-Some .is) ∙ c .from-number .ensures) (w .k-is) (w .at .ensures) (ap cells (w .values-is) ∙ w .push .ensures) in
       (omega (arith, w .k-is, c .loop-b .inv .0), omega (arith, w .k-is, c .loop-b .inv .1, p .1), p .0 ∙ c .loop-b .inv .2)
   | in-rest w ↦
       let p = values-none (c .args .def) (c .args .types .now) (c .loop-b .b-index) (c .loop-b .k) (c .match-from-number .k) (cells (c .loop-b .values)) (cells (c .match-from-number .values))
-            (c .loop-b-test .taken) (sym (w .in-rest .is) ∙ c .from-number .ensures) (w .k-is) (ap cells (w .values-is)) in
-      (omega (arith, w .k-is, c .loop-b .inv .0), omega (arith, w .k-is, c .loop-b .inv .1, p .1), p .0 ∙ c .loop-b .inv .2) ]
+      (c .loop-b-test .taken) (sym (w .in-rest .is) ∙ c .from-number .ensures) (w .k-is) (ap cells (w .values-is)) in
+      (omega (arith, w .k-is, c .loop-b .inv .0), omega (arith, w .k-is, c .loop-b .inv .1, p .1), p .0 ∙ c .loop-b .inv .2)
+]
 
 pub returns : need.returns
 returns c =

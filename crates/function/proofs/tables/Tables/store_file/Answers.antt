@@ -20,8 +20,9 @@ returns-in-Break-item c =
     let p = err-from-errBy (c .from-residual-in-Break-item .result) (c .from-residual-in-Break-item .ensures .1) in
     rw (p .1, p .2) (record {
       stored = ap (mapped-outcome (λ f. stored (tail-of f) s)) (c .in-Continue-reader .ensures tt .begins) ∙ sym (file-stored x s (c .in-Continue-reader .ensures tt .fresh))
-        ∙ sym (c .loop-item .inv) ∙ ap (mapped-outcome (λ t. stored t u)) (c .in-Break-item .ensures tt .hands);
-      law = c .new .ensures .law })
+          ∙ sym (c .loop-item .inv) ∙ ap (mapped-outcome (λ t. stored t u)) (c .in-Break-item .ensures tt .hands);
+      law = c .new .ensures .law;
+    })
 
 pub loop-item-less : need.loop-item-less
 loop-item-less c = subst (λ o. Cases o (Unit {0}) (λ _. due (c .next .last .self) < due (c .loop-item .reader))) (c .in-Some .is) (c .in-Continue-item .ensures tt .falls)
@@ -30,8 +31,8 @@ pub loop-item-again : need.loop-item-again
 loop-item-again c =
     let y = c .next .last .self in
     record-stored (c .in-Some .item) (c .loop-item .reader) y (view (c .loop-item .self)) (view (c .store .last .self)) (c .at-block-end .result)
-      (c .in-Continue-item .ensures tt .hands ∙ ap (λ o. handed (Ok o) (left y)) (c .in-Some .is)) (c .at-block-end .ensures)
-      (subst (λ o. Counts o y) (c .in-Some .is) (c .in-Continue-item .ensures tt .counts)) (c .store .ensures)
+    (c .in-Continue-item .ensures tt .hands ∙ ap (λ o. handed (Ok o) (left y)) (c .in-Some .is)) (c .at-block-end .ensures)
+    (subst (λ o. Counts o y) (c .in-Some .is) (c .in-Continue-item .ensures tt .counts)) (c .store .ensures)
     ∙ c .loop-item .inv
 
 pub returns : need.returns
@@ -42,5 +43,6 @@ returns c =
     let y = c .next .last .self in
     record {
       stored = ap (mapped-outcome (λ f. stored (tail-of f) s)) (c .in-Continue-reader .ensures tt .begins) ∙ sym (file-stored x s (c .in-Continue-reader .ensures tt .fresh))
-        ∙ sym (c .loop-item .inv) ∙ ap (mapped-outcome (λ t. stored t u)) (c .in-Continue-item .ensures tt .hands ∙ ap (λ o. handed (Ok o) (left y)) (c .in-rest .is));
-      law = c .new .ensures .law }
+          ∙ sym (c .loop-item .inv) ∙ ap (mapped-outcome (λ t. stored t u)) (c .in-Continue-item .ensures tt .hands ∙ ap (λ o. handed (Ok o) (left y)) (c .in-rest .is));
+      law = c .new .ensures .law;
+    }

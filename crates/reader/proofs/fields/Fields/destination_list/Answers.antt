@@ -17,17 +17,19 @@ returns-in-Break-destination c =
     let at = ap (λ n. destination n (spot y)) (c .loop-k .inv .1) in
     rw (p .1, p .2) (record {
       told = sym (went-wrong destination (x .size) (c .args .n) (c .loop-k .-k) (spot x) (spot y) (refusal-number e) (refusal-place e) (c .loop-k-test .taken)
-        (sym at ∙ sym (c .in-Break-destination .ensures tt .told)) (c .loop-k .inv .0));
-      size = c .destination .ensures .size ∙ c .loop-k .inv .1 })
+          (sym at ∙ sym (c .in-Break-destination .ensures tt .told)) (c .loop-k .inv .0));
+      size = c .destination .ensures .size ∙ c .loop-k .inv .1;
+    })
 
 pub loop-k-again : need.loop-k-again
 loop-k-again c =
     let x = c .args .self .now in
     let y = c .loop-k .self in
-    let at = ap (λ n. destination n (spot y)) (c .loop-k .inv .1) in
-    (went-on destination (x .size) (c .args .n) (c .loop-k .-k) (spot x) (spot y) (spot (c .destination .last .self)) (destination-of (c .in-Continue-destination .field-0)) (c .loop-k-test .taken)
-       (sym at ∙ sym (c .in-Continue-destination .ensures tt .told)) (c .loop-k .inv .0),
-     c .destination .ensures .size ∙ c .loop-k .inv .1)
+    let at = ap (λ n. destination n (spot y)) (c .loop-k .inv .1) in (
+      went-on destination (x .size) (c .args .n) (c .loop-k .-k) (spot x) (spot y) (spot (c .destination .last .self)) (destination-of (c .in-Continue-destination .field-0)) (c .loop-k-test .taken)
+          (sym at ∙ sym (c .in-Continue-destination .ensures tt .told)) (c .loop-k .inv .0),
+      c .destination .ensures .size ∙ c .loop-k .inv .1,
+    )
 
 pub returns : need.returns
 returns c =

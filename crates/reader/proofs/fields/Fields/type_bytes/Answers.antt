@@ -20,7 +20,8 @@ returns-then-good-n c =
     let e : c .typed-good .result ≡ typed-front (take (c .args .n) (x .rest .now)) = c .typed-good .ensures ∙ ap typed-front (take-front (x .rest .now) (c .args .n) (c .min-front .result) (c .min-front .ensures)) in
     record {
       told = ap (fault 1) (c .saturating-sub .ensures ∙ ap (λ k. x .size - (length (x .rest .now) - k)) e) ∙ sym (types-cut (x .size) (x .totals) (c .args .n) (x .rest .now) (omega arith));
-      size = refl }
+      size = refl;
+    }
 
 pub returns : need.returns
 returns c =
@@ -30,4 +31,5 @@ returns c =
     let m = length-take (c .args .n) (x .rest .now) in
     record {
       told = types-told (c .args .n) x (c .bytes .last .self) (c .bytes .result) (omega arith) (omega arith) (c .bytes .ensures .takes);
-      size = c .bytes .ensures .size }
+      size = c .bytes .ensures .size;
+    }

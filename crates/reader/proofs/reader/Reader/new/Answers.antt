@@ -19,4 +19,6 @@ returns c =
     let y = c .counted .last .self in
     record {
       begins = file-begins (length file) (y .size) (c .in-Continue-blocks .«blocks») (start file) (spot y) (c .counted .ensures .size) (c .in-Continue-blocks .ensures tt .told);
-      law = format-law file (c .witness .ensures); fresh = refl }
+      law = format-law file (c .witness .ensures);
+      fresh = refl;
+    }

@@ -23,5 +23,7 @@ returns c =
     let b = c .in-Continue-block .block in
     record {
       hands = block-next (x .fields .size) (x .entries) (spot (x .fields)) (x .insts) (x .blocks) (spot y) (types-of (now (b .params))) (b .insts) (c .pre .0) (c .pre .1) (c .in-Continue-block .ensures tt .told)
-        ∙ ap (λ n. mapped-outcome (with-block (types-of (now (b .params)))) (ended n (remaining (b .insts) (x .blocks - 1) (x .entries) n (spot y)))) (sym (c .heading .ensures .size));
-      falls = omega (arith, c .pre .0, c .pre .1, c .in-Continue-block .ensures tt .few); counts = refl }
+          ∙ ap (λ n. mapped-outcome (with-block (types-of (now (b .params)))) (ended n (remaining (b .insts) (x .blocks - 1) (x .entries) n (spot y)))) (sym (c .heading .ensures .size));
+      falls = omega (arith, c .pre .0, c .pre .1, c .in-Continue-block .ensures tt .few);
+      counts = refl;
+    }

@@ -16,8 +16,10 @@ returns-in-Break-order c =
     let at = ap (λ n. order-entry n (spot (y .fields))) (c .entries-due .ensures .same .size) in
     rw (p .1, p .2) (record {
       hands = entry-wrong (x .fields .size) (x .entries) (spot (x .fields)) (x .insts) (x .blocks) (c .pre .0) (c .pre .1) (c .in-Continue-count .count) (spot (y .fields)) _ _ (c .if-count-eq0 .left)
-        (c .in-Continue-count .ensures tt .told) (c .in-Break-order .ensures tt .told ∙ at);
-      falls = tt; counts = tt })
+          (c .in-Continue-count .ensures tt .told) (c .in-Break-order .ensures tt .told ∙ at);
+      falls = tt;
+      counts = tt;
+    })
 
 pub returns : need.returns
 returns c =
@@ -28,8 +30,10 @@ returns c =
     let at = ap (λ n. order-entry n (spot (y .fields))) (same .size) in
     record {
       hands = entry-next (x .fields .size) (x .entries) (spot (x .fields)) (x .insts) (x .blocks) (c .pre .0) (c .pre .1)
-        (y .insts) (y .blocks) (z .size) (c .in-Continue-count .count) (spot (y .fields)) (spot z) (c .in-Continue-order .order .«entry»)
-        (same .insts ∙ c .pre .0) (same .blocks ∙ c .pre .1) (c .order-entry .ensures .size ∙ same .size) (c .if-count-eq0 .left)
-        (c .in-Continue-count .ensures tt .told) (c .in-Continue-order .ensures tt .told ∙ at);
+          (y .insts) (y .blocks) (z .size) (c .in-Continue-count .count) (spot (y .fields)) (spot z) (c .in-Continue-order .order .«entry»)
+          (same .insts ∙ c .pre .0) (same .blocks ∙ c .pre .1) (c .order-entry .ensures .size ∙ same .size) (c .if-count-eq0 .left)
+          (c .in-Continue-count .ensures tt .told) (c .in-Continue-order .ensures tt .told ∙ at);
       falls = let f = entries-fall (x .entries) (x .fields .size) (c .in-Continue-count .count) (spot (x .fields)) (spot (y .fields)) (omega arith) (c .if-count-eq0 .left) (c .in-Continue-count .ensures tt .told) in
-        omega (arith, same .insts, same .blocks, c .pre .0, c .pre .1); counts = (same .insts ∙ c .pre .0, same .blocks ∙ c .pre .1) }
+          omega (arith, same .insts, same .blocks, c .pre .0, c .pre .1);
+      counts = (same .insts ∙ c .pre .0, same .blocks ∙ c .pre .1);
+    }

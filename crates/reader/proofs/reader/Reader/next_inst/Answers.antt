@@ -22,5 +22,7 @@ returns c =
     let y = c .instruction .last .self in
     record {
       hands = inst-next (x .fields .size) (x .entries) (spot (x .fields)) (x .insts) (x .blocks) (spot y) (instruction-of (c .in-Continue-inst .inst)) (c .pre) (c .in-Continue-inst .ensures tt .told)
-        ∙ ap (λ n. mapped-outcome (with-inst (instruction-of (c .in-Continue-inst .inst))) (ended n (remaining (x .insts - 1) (x .blocks) (x .entries) n (spot y)))) (sym (c .instruction .ensures .size));
-      falls = omega (arith, c .pre); counts = tt }
+          ∙ ap (λ n. mapped-outcome (with-inst (instruction-of (c .in-Continue-inst .inst))) (ended n (remaining (x .insts - 1) (x .blocks) (x .entries) n (spot y)))) (sym (c .instruction .ensures .size));
+      falls = omega (arith, c .pre);
+      counts = tt;
+    }

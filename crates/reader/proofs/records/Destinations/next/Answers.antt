@@ -9,5 +9,6 @@ returns c =
     let d = c .args .self .now in
     record {
       hands = next-told (d .left) (d .fields) (c .destination .last .self) (c .destination .result) (c .if-self-eq0 .left) (c .destination .ensures .told) (c .destination .ensures .size)
-        ∙ ap (λ o. next-destination o (record { left = d .left - 1; fields = c .destination .last .self })) (sym (c .ok .ensures .value));
-      falls = next-falls (d .left) (c .ok .result) (c .if-self-eq0 .left) }
+          ∙ ap (λ o. next-destination o (record { left = d .left - 1; fields = c .destination .last .self })) (sym (c .ok .ensures .value));
+      falls = next-falls (d .left) (c .ok .result) (c .if-self-eq0 .left);
+    }
