@@ -5,17 +5,20 @@ use mathlib.Core.List.{List, [], _∷_, _++_}
 use Prim.Native.Nat.{ℕ, zero, suc, _+_, _-_, _*_, _≤_, _<_}
 use native.Mathlib.Omega.{arith}
 use denote.Ref.{now}
-use lib.Dec.{eqb}
-use lib.ListN.{length}
+use lib.Dec.{eqb, leb}
+use lib.ListN.{length, take, drop}
+use Rattle.std.proofs.shelf.Lists.{length-drop}
+use Rattle.reader.specs.Data.{limit}
+use Rattle.reader.specs.declared.totals.Kind.{Kind}
 use Rattle.clif.specs.declared.entities.Entry.{Entry}
 use Rattle.clif.specs.declared.types.«Type».{«Type» as Ty}
 use Rattle.reader.specs.Data.{Instruction, Body}
-use Rattle.reader.specs.Reading.{Reads, Spot, Read, got, fault, after, place, Outcome, done, refused, ended, repeated, instruction, heading, body, order-entry, count, func}
+use Rattle.reader.specs.Reading.{Reads, Spot, Read, got, fault, after, place, Outcome, done, refused, ended, repeated, instruction, heading, body, order-entry, count, func, admitted, number, number-of, raised, total}
 use Rattle.reader.proofs.Turns.{after-back, repeated-length}
 use Rattle.reader.specs.Told.{spot}
 use Rattle.reader.specs.declared.reader.Reader.{Reader}
-use Rattle.reader.specs.Stream.{left, Tail, remaining, mapped-outcome, due-count, order-left, entries-due, nothing-left, func-of}
-use Rattle.reader.specs.declared.totals.Kind.the-variants.{Blocks}
+use Rattle.reader.specs.Stream.{left, Tail, remaining, mapped-outcome, due-count, order-left, entries-due, nothing-left, func-of, entry-place}
+use Rattle.reader.specs.declared.totals.Kind.the-variants.{Blocks, Entries}
 use Rattle.std.specs.declared.option.Option.{Option}
 use Rattle.std.specs.declared.option.Option.the-variants.{Some, None}
 
@@ -108,3 +111,26 @@ left-length x t e =
       ap (λ u. length (u .insts)) y ∙ repeated-length instruction size (x .insts) (spot (x .fields)) (a .1) (a .0) (a .2),
       ap (λ u. length (u .blocks)) y ∙ repeated-length body size (x .blocks) (a .1) (b .1) (b .0) (b .2),
     )
+
+-- where reading stands once the number of entries due is known
+admitted-rest : (at n least : ℕ) (k : Kind) (u t : Spot) (m : ℕ) → admitted at n least k u ≡ got m t → t .rest ≡ u .rest
+admitted-rest at n least k u t m e = go (leb least n) (leb n (limit k - total k (u .totals))) e
+  where
+    go : (a b : Bool) → cond a (cond b (got n (record { rest = u .rest; totals = raised k n (u .totals) })) (fault 2 at)) (fault 1 at) ≡ got m t → t .rest ≡ u .rest
+    go true true e = sym (ap (λ r. elim r [ got x v ↦ v .rest | fault i j ↦ u .rest ]) e)
+    go true false e = absurd (let z : _≡_ {A = ℕ} 0 1 = cc in omega arith)
+    go false b e = absurd (let z : _≡_ {A = ℕ} 0 1 = cc in omega arith)
+
+number-rest : (k size : ℕ) (s u : Spot) (m : ℕ) → number k size s ≡ got m u → u .rest ≡ drop k (s .rest)
+number-rest k size s u m e = go (leb k (length (s .rest))) e
+  where
+    go : (a : Bool) → cond a (got (number-of (take k (s .rest))) (record { rest = drop k (s .rest); totals = s .totals })) (fault 1 (place size s)) ≡ got m u → u .rest ≡ drop k (s .rest)
+    go true e = sym (ap (λ r. elim r [ got x v ↦ v .rest | fault i j ↦ drop k (s .rest) ]) e)
+    go false e = absurd (let z : _≡_ {A = ℕ} 0 1 = cc in omega arith)
+
+pub count-place : (o : Option ℕ) (size m : ℕ) (s t : Spot) → got m t ≡ due-count o size s → place size t ≡ entry-place o size s
+count-place None size m s t e =
+    let a = after-back (number 2 size s) _ m t (sym e) in
+    let r = admitted-rest (place size s) (a .0) 1 Entries (a .1) t m (a .3) ∙ number-rest 2 size s (a .1) (a .0) (a .2) in
+    ap (λ l. size - l) (ap length r ∙ length-drop 2 (s .rest))
+count-place (Some n) size m s t e = ap (λ r. elim r [ got x v ↦ place size v | fault i j ↦ 0 ]) e

@@ -2,13 +2,14 @@
 use denote.Ref.{now}
 use mathlib.Core.List.{List, [], _∷_}
 use mathlib.Core.Path.{_≡_}
-use Prim.Native.Nat.{ℕ, _+_, _*_}
+use Prim.Native.Nat.{ℕ, _+_, _-_, _*_}
+use lib.ListN.{length}
 use Rattle.clif.specs.Refusals.{refusal-number, refusal-place}
 use Rattle.clif.specs.declared.entities.Entry.{Entry}
 use Rattle.clif.specs.declared.refusals.Refusal.{Refusal}
 use Rattle.reader.specs.Data.{Instruction, Body, Func}
 use Rattle.reader.specs.Parts.{types-of}
-use Rattle.reader.specs.Reading.{Reads, Outcome, done, refused, ended, give, _>>=_, repeated, instruction, body, count, order-entry}
+use Rattle.reader.specs.Reading.{Reads, Spot, place, Outcome, done, refused, ended, give, _>>=_, repeated, instruction, body, count, order-entry}
 use Rattle.reader.specs.Records.{instruction-of}
 use Rattle.reader.specs.Told.{spot}
 use Rattle.reader.specs.declared.reader.Reader.{Reader}
@@ -93,3 +94,15 @@ Counts None y = Unit {0}
 Counts (Some (Block b)) y = y .insts ≡ b .insts
 Counts (Some (Inst x)) y = Unit {0}
 Counts (Some (Order o)) y = (y .insts ≡ 0) × (y .blocks ≡ 0)
+
+-- the place of the next entry: behind the count where that is still to be read
+abbrev pub entry-place : Option ℕ → ℕ → Spot → ℕ
+entry-place None size s = size - (length (s .rest) - 2)
+entry-place (Some n) size s = place size s
+
+-- a record has the place of its first byte
+abbrev pub Placed : Option Record → Reader → Type 0
+Placed None x = Unit {0}
+Placed (Some (Block b)) x = b .place ≡ place (x .fields .size) (spot (x .fields))
+Placed (Some (Inst i)) x = i .place ≡ place (x .fields .size) (spot (x .fields))
+Placed (Some (Order o)) x = o .place ≡ entry-place (x .entries) (x .fields .size) (spot (x .fields))

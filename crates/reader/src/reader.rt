@@ -4,7 +4,7 @@ ghost use mathlib.Core.Path.{_≡_};
 ghost use Prim.Native.Nat.{ℕ, _<_};
 ghost use Rattle.reader.specs.Laws.{Format-law};
 ghost use Rattle.reader.specs.Reading.{Bytes, read, ended, got};
-ghost use Rattle.reader.specs.Stream.{begun, left, handed, nothing-left, due, due-count, Same-but-fields, Counts};
+ghost use Rattle.reader.specs.Stream.{begun, left, handed, nothing-left, due, due-count, Same-but-fields, Counts, Placed};
 ghost use Rattle.reader.specs.Told.{spot, told};
 ghost use Rattle.std.specs.Options.{Cases as BySome};
 ghost use Rattle.std.specs.Vec.{made};
@@ -65,6 +65,7 @@ impl<'a> Reader<'a> {
         ensures hands { λ r. ⌜ left (now (self .entry)) ≡ handed r (left (now (self .exit))) ⌝ }
         ensures falls { λ r. ⌜ made r (λ o. BySome o (Unit {0}) (λ _. due (now (self .exit)) < due (now (self .entry)))) ⌝ }
         ensures counts { λ r. ⌜ made r (λ o. Counts o (now (self .exit))) ⌝ }
+        ensures placed { λ r. ⌜ made r (λ o. Placed o (now (self .entry))) ⌝ }
     {
         let inst = self.fields.instruction()?;
         self.insts -= 1;
@@ -76,6 +77,7 @@ impl<'a> Reader<'a> {
         ensures hands { λ r. ⌜ left (now (self .entry)) ≡ handed r (left (now (self .exit))) ⌝ }
         ensures falls { λ r. ⌜ made r (λ o. BySome o (Unit {0}) (λ _. due (now (self .exit)) < due (now (self .entry)))) ⌝ }
         ensures counts { λ r. ⌜ made r (λ o. Counts o (now (self .exit))) ⌝ }
+        ensures placed { λ r. ⌜ made r (λ o. Placed o (now (self .entry))) ⌝ }
     {
         let block = self.fields.heading()?;
         self.blocks -= 1;
@@ -99,6 +101,7 @@ impl<'a> Reader<'a> {
         ensures hands { λ r. ⌜ left (now (self .entry)) ≡ handed r (left (now (self .exit))) ⌝ }
         ensures falls { λ r. ⌜ made r (λ o. BySome o (Unit {0}) (λ _. due (now (self .exit)) < due (now (self .entry)))) ⌝ }
         ensures counts { λ r. ⌜ made r (λ o. Counts o (now (self .exit))) ⌝ }
+        ensures placed { λ r. ⌜ made r (λ o. Placed o (now (self .entry))) ⌝ }
     {
         let count = self.entries_due()?;
         if count == 0 {
@@ -114,6 +117,7 @@ impl<'a> Reader<'a> {
         ensures hands { λ r. ⌜ ended (now (self .entry) .fields .size) (got nothing-left (spot (now (self .entry) .fields))) ≡ handed r (left (now (self .exit))) ⌝ }
         ensures falls { λ r. ⌜ made r (λ o. BySome o (Unit {0}) (λ _. due (now (self .exit)) < due (now (self .entry)))) ⌝ }
         ensures counts { λ r. ⌜ made r (λ o. Counts o (now (self .exit))) ⌝ }
+        ensures placed { λ r. ⌜ made r (λ o. Placed o (now (self .entry))) ⌝ }
     {
         if self.fields.rest.is_empty() {
             Ok(None)
@@ -127,6 +131,7 @@ impl<'a> Reader<'a> {
         ensures hands { λ r. ⌜ left (now (self .entry)) ≡ handed r (left (now (self .exit))) ⌝ }
         ensures falls { λ r. ⌜ made r (λ o. BySome o (Unit {0}) (λ _. due (now (self .exit)) < due (now (self .entry)))) ⌝ }
         ensures counts { λ r. ⌜ made r (λ o. Counts o (now (self .exit))) ⌝ }
+        ensures placed { λ r. ⌜ made r (λ o. Placed o (now (self .entry))) ⌝ }
     {
         if self.insts > 0 {
             return self.next_inst();

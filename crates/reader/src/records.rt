@@ -7,6 +7,7 @@ ghost use mathlib.Core.Path.{_≡_};
 ghost use Prim.Native.Nat.{ℕ, _/_, _%_, _<_};
 ghost use Rattle.reader.specs.Parts.{words-of, types-of};
 ghost use Rattle.reader.specs.Reading.{standing, present, number, named, flag-of, uses as uses-field, types as types-field, destination as destination-field, destinations as destinations-field, instruction as instruction-field, repeated, heading as heading-field, order-entry};
+ghost use Rattle.reader.specs.Reading.{place as place-of};
 ghost use Rattle.reader.specs.Records.{destination-of, destinations-of, next-destination, instruction-of, heading-of};
 ghost use Rattle.reader.specs.Told.{spot, told};
 ghost use Rattle.std.specs.Options.{Cases as BySome};
@@ -189,6 +190,7 @@ impl<'a> Fields<'a> {
     pub(crate) fn instruction(&mut self) -> Result<InstRecord<'a>, Refusal>
         ensures told { λ r. ⌜ told instruction-of r (spot (now (self .exit))) ≡ instruction-field (now (self .entry) .size) (spot (now (self .entry))) ⌝ }
         ensures size { λ r. ⌜ now (self .exit) .size ≡ now (self .entry) .size ⌝ }
+        ensures place { λ r. ⌜ made r (λ x. x .place ≡ place-of (now (self .entry) .size) (spot (now (self .entry)))) ⌝ }
     {
         let place = self.place();
         let map = self.ranged(0, 63)?;
@@ -215,6 +217,7 @@ impl<'a> Fields<'a> {
         ensures told { λ r. ⌜ told heading-of r (spot (now (self .exit))) ≡ heading-field (now (self .entry) .size) (spot (now (self .entry))) ⌝ }
         ensures size { λ r. ⌜ now (self .exit) .size ≡ now (self .entry) .size ⌝ }
         ensures few { λ r. ⌜ made r (λ b. b .insts < 65536) ⌝ }
+        ensures place { λ r. ⌜ made r (λ x. x .place ≡ place-of (now (self .entry) .size) (spot (now (self .entry)))) ⌝ }
     {
         let place = self.place();
         let map = self.ranged(2, 3)?;
@@ -230,6 +233,7 @@ impl<'a> Fields<'a> {
     pub(crate) fn order_entry(&mut self) -> Result<OrderRecord, Refusal>
         ensures told { λ r. ⌜ told (λ (o : OrderRecord). o .«entry») r (spot (now (self .exit))) ≡ order-entry (now (self .entry) .size) (spot (now (self .entry))) ⌝ }
         ensures size { λ r. ⌜ now (self .exit) .size ≡ now (self .entry) .size ⌝ }
+        ensures place { λ r. ⌜ made r (λ x. x .place ≡ place-of (now (self .entry) .size) (spot (now (self .entry)))) ⌝ }
     {
         let place = self.place();
         let map = self.ranged(1, 2)?;

@@ -14,7 +14,7 @@ pub returns-in-Break-block : need.returns-in-Break-block
 returns-in-Break-block c =
     let x = c .args .self .now in
     let p = err-from-errBy (c .from-residual .result) (c .from-residual .ensures .1) in
-    rw (p .1, p .2) (record { hands = block-wrong (x .fields .size) (x .entries) (spot (x .fields)) (x .insts) (x .blocks) _ _ (c .pre .0) (c .pre .1) (c .in-Break-block .ensures tt .told); falls = tt; counts = tt })
+    rw (p .1, p .2) (record { hands = block-wrong (x .fields .size) (x .entries) (spot (x .fields)) (x .insts) (x .blocks) _ _ (c .pre .0) (c .pre .1) (c .in-Break-block .ensures tt .told); falls = tt; counts = tt; placed = tt })
 
 pub returns : need.returns
 returns c =
@@ -26,4 +26,5 @@ returns c =
           ∙ ap (λ n. mapped-outcome (with-block (types-of (now (b .params)))) (ended n (remaining (b .insts) (x .blocks - 1) (x .entries) n (spot y)))) (sym (c .heading .ensures .size));
       falls = omega (arith, c .pre .0, c .pre .1, c .in-Continue-block .ensures tt .few);
       counts = refl;
+      placed = c .in-Continue-block .ensures tt .place;
     }

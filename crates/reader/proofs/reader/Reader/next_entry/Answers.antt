@@ -1,11 +1,11 @@
 use mathlib.Core.Path.{_≡_, refl, sym, ap, _∙_}
 use Prim.Native.Nat.{_-_}
 use native.Mathlib.Omega.{arith}
-use Rattle.reader.specs.Reading.{ended, order-entry}
+use Rattle.reader.specs.Reading.{ended, order-entry, place}
 use Rattle.reader.specs.Stream.{remaining, mapped-outcome}
 use Rattle.reader.specs.Told.{spot}
 use Rattle.std.proofs.shelf.Results.{err-from-errBy}
-use Rattle.reader.proofs.Handing.{entry-next, entry-wrong, entries-fall}
+use Rattle.reader.proofs.Handing.{entry-next, entry-wrong, entries-fall, count-place}
 use Rattle.reader.proofs.reader.Reader.next_entry.Needs as need
 
 pub returns-in-Break-order : need.returns-in-Break-order
@@ -19,6 +19,7 @@ returns-in-Break-order c =
           (c .in-Continue-count .ensures tt .told) (c .in-Break-order .ensures tt .told ∙ at);
       falls = tt;
       counts = tt;
+      placed = tt;
     })
 
 pub returns : need.returns
@@ -36,4 +37,6 @@ returns c =
       falls = let f = entries-fall (x .entries) (x .fields .size) (c .in-Continue-count .count) (spot (x .fields)) (spot (y .fields)) (omega arith) (c .if-count-eq0 .left) (c .in-Continue-count .ensures tt .told) in
           omega (arith, same .insts, same .blocks, c .pre .0, c .pre .1);
       counts = (same .insts ∙ c .pre .0, same .blocks ∙ c .pre .1);
+      placed = c .in-Continue-order .ensures tt .place ∙ ap (λ n. place n (spot (y .fields))) (same .size)
+          ∙ count-place (x .entries) (x .fields .size) (c .in-Continue-count .count) (spot (x .fields)) (spot (y .fields)) (c .in-Continue-count .ensures tt .told);
     }

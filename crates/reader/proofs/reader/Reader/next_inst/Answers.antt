@@ -14,7 +14,7 @@ pub returns-in-Break-inst : need.returns-in-Break-inst
 returns-in-Break-inst c =
     let x = c .args .self .now in
     let p = err-from-errBy (c .from-residual .result) (c .from-residual .ensures .1) in
-    rw (p .1, p .2) (record { hands = inst-wrong (x .fields .size) (x .entries) (spot (x .fields)) (x .insts) (x .blocks) _ _ (c .pre) (c .in-Break-inst .ensures tt .told); falls = tt; counts = tt })
+    rw (p .1, p .2) (record { hands = inst-wrong (x .fields .size) (x .entries) (spot (x .fields)) (x .insts) (x .blocks) _ _ (c .pre) (c .in-Break-inst .ensures tt .told); falls = tt; counts = tt; placed = tt })
 
 pub returns : need.returns
 returns c =
@@ -25,4 +25,5 @@ returns c =
           ∙ ap (λ n. mapped-outcome (with-inst (instruction-of (c .in-Continue-inst .inst))) (ended n (remaining (x .insts - 1) (x .blocks) (x .entries) n (spot y)))) (sym (c .instruction .ensures .size));
       falls = omega (arith, c .pre);
       counts = tt;
+      placed = c .in-Continue-inst .ensures tt .place;
     }
