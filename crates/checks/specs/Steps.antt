@@ -1,5 +1,4 @@
 -- What the private functions of the checks answer.
-use denote.Ref.{now}
 use mathlib.Core.Bool.{Bool, true, false, _&&_}
 use Prim.Native.Nat.{ℕ}
 use mathlib.Core.Path.{_≡_}

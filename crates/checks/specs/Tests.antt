@@ -1,5 +1,5 @@
 -- Tests in an order: the first that fails decides.
-use mathlib.Core.Bool.{Bool, true, false, cond, _&&_, not}
+use mathlib.Core.Bool.{Bool, true, cond, _&&_}
 use mathlib.Core.List.{List, [], _∷_}
 use Prim.Native.Nat.{ℕ}
 use Rattle.clif.specs.Refusals.{refusal-number, refusal-place}

@@ -1,22 +1,18 @@
 -- The answers of a function: what each question about it means.
-use denote.Ref.{RefT, now}
-use mathlib.Core.Bool.{Bool, true, false, cond, _&&_}
+use denote.Ref.{now}
+use mathlib.Core.Bool.{Bool, false, cond, _&&_}
 use mathlib.Core.List.{List, [], _∷_}
-use mathlib.Core.Path.{_≡_}
-use Prim.Native.Nat.{ℕ, zero, suc, _+_}
+use Prim.Native.Nat.{ℕ, _+_}
 use lib.Dec.{ltb}
-use lib.ListN.{length}
 use Rattle.clif.specs.declared.entities.Block.{Block}
-use Rattle.clif.specs.declared.entities.Entry.{Entry}
 use Rattle.clif.specs.declared.entities.Value.{Value}
-use Rattle.clif.specs.declared.opcodes.Opcode.{Opcode}
 use Rattle.clif.specs.declared.types.«Type».{«Type» as Ty}
 use Rattle.function.specs.Holding.{Holds, block-entry, edge-entry}
-use Rattle.function.specs.Numbering.{uses-of, block-rows, inst-rows, value-rows, values-from, nth}
+use Rattle.function.specs.Numbering.{block-rows, inst-rows, value-rows, values-from, nth}
 use Rattle.function.specs.declared.function.BlockCall.{BlockCall}
 use Rattle.function.specs.declared.function.Function.{Function}
 use Rattle.function.specs.declared.rows.ValueDef.{ValueDef}
-use Rattle.reader.specs.Data.{Destination, Instruction, Body, Func}
+use Rattle.reader.specs.Data.{Destination, Instruction, Func}
 use Rattle.reader.specs.Within.{Within}
 use Rattle.std.specs.Joined.{joined}
 use Rattle.std.specs.Options.{mapped}

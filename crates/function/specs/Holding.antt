@@ -1,8 +1,8 @@
 -- What the tables hold of a function.
-use mathlib.Core.Bool.{Bool, true, false, cond, _&&_}
-use mathlib.Core.List.{List, [], _∷_, _++_, map}
+use mathlib.Core.Bool.{Bool, false, cond, _&&_}
+use mathlib.Core.List.{List, [], _∷_, map}
 use mathlib.Core.Path.{_≡_}
-use Prim.Native.Nat.{ℕ, zero, suc, _+_, _*_, _/_, _%_}
+use Prim.Native.Nat.{ℕ, zero, suc, _/_, _%_}
 use lib.Dec.{eqb}
 use lib.ListN.{length}
 use Rattle.clif.specs.declared.entities.Entry.{Entry}
@@ -18,7 +18,7 @@ use Rattle.function.specs.declared.tables.Tables.{Tables}
 use Rattle.reader.specs.Data.{Func}
 use Rattle.clif.specs.Refusals.{refusal-number, refusal-place}
 use Rattle.clif.specs.declared.refusals.Refusal.{Refusal}
-use Rattle.reader.specs.Reading.{value-at, block-at, done, refused, read}
+use Rattle.reader.specs.Reading.{value-at, done, refused, read}
 use Rattle.reader.specs.Within.{Within}
 use Rattle.std.specs.declared.result.Result.{Result}
 use Rattle.std.specs.declared.result.Result.the-variants.{Ok, Err}

@@ -1,9 +1,9 @@
 -- The predicates of instructions.
-use mathlib.Core.Bool.{Bool, true, false, cond, _&&_, not}
+use mathlib.Core.Bool.{Bool, false, cond, _&&_, not}
 use Prim.Native.Nat.{ℕ}
 use Rattle.clif.specs.Rows.{row-of, has-class}
 use Rattle.function.specs.Answers.{inst-of, flag-in, option-in}
-use Rattle.reader.specs.Data.{Instruction, Func}
+use Rattle.reader.specs.Data.{Func}
 use Rattle.std.specs.declared.option.Option.{Option}
 use Rattle.std.specs.declared.option.Option.the-variants.{Some, None}
 

@@ -1,11 +1,11 @@
 -- What the parts of a file that records borrow stand for.
-use mathlib.Core.Bool.{Bool, cond}
+use mathlib.Core.Bool.{cond}
 use mathlib.Core.List.{List, [], _∷_}
 use Prim.Native.Nat.{ℕ, zero, suc}
 use Rattle.clif.specs.Types.{type-of}
 use Rattle.clif.specs.declared.entities.Value.{Value}
 use Rattle.clif.specs.declared.types.«Type».{«Type» as Ty}
-use Rattle.reader.specs.Reading.{Reads, Read, got, fault, Spot, number-of, value-at}
+use Rattle.reader.specs.Reading.{Reads, got, fault, Spot, number-of, value-at}
 use Rattle.std.specs.Options.{isSome}
 use Rattle.std.specs.declared.option.Option.{Option}
 use Rattle.std.specs.declared.option.Option.the-variants.{Some, None}

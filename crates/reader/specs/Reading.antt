@@ -1,6 +1,6 @@
 -- Reading a file, field by field: the function that it is, or its first fault.
 use mathlib.Core.Bool.{Bool, true, false, cond, _&&_}
-use mathlib.Core.List.{List, [], _∷_, _++_}
+use mathlib.Core.List.{List, [], _∷_}
 use Prim.Native.Nat.{ℕ, zero, suc, _+_, _-_, _*_, _/_, _%_, _<_}
 use lib.Dec.{leb, eqb}
 use lib.ListN.{length, take, drop, getD}
@@ -10,7 +10,6 @@ use Rattle.clif.specs.declared.entities.Block.{Block}
 use Rattle.clif.specs.declared.entities.Value.{Value}
 use Rattle.clif.specs.declared.entities.Entry.{Entry}
 use Rattle.clif.specs.declared.entities.Entry.the-variants.{Block as to-block, Edge as to-edge}
-use Rattle.clif.specs.declared.opcodes.Opcode.{Opcode}
 use Rattle.clif.specs.declared.types.«Type».{«Type» as Ty}
 use Rattle.reader.specs.Data.{Destination, Instruction, Body, Func, limit}
 use Rattle.reader.specs.declared.totals.Kind.{Kind}

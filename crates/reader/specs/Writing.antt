@@ -6,7 +6,6 @@ use lib.ListN.{length}
 use Rattle.std.specs.Joined.{joined}
 use Rattle.clif.specs.Rows.{opcode-number}
 use Rattle.clif.specs.Types.{type-number}
-use Rattle.clif.specs.declared.entities.Block.{Block}
 use Rattle.clif.specs.declared.entities.Value.{Value}
 use Rattle.clif.specs.declared.entities.Entry.{Entry}
 use Rattle.clif.specs.declared.entities.Entry.the-variants.{Block as to-block, Edge as to-edge}

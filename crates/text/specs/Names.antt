@@ -1,5 +1,5 @@
 -- What the parts of a function are called in its text.
-use mathlib.Core.List.{List, [], _∷_, _++_}
+use mathlib.Core.List.{List, _++_}
 use Prim.Native.Nat.{ℕ}
 use lib.Chars.{codes}
 use Rattle.clif.specs.declared.entities.Block.{Block}
