@@ -21,7 +21,7 @@ use clif::opcodes::Opcode;
 use clif::types::Type;
 
 impl Tables {
-    // The function that the tables hold; where they are zero, one with no blocks.
+    // The function that the tables hold.
     pub fn function(&self) -> Function<'_>
         ensures { λ r. ⌜ now (r .tables) ≡ now (self .entry) ⌝ }
     {
