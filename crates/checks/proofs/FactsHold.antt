@@ -51,7 +51,7 @@ first-passes t ts e = go (t .passes) refl
     go false h = absurd (let z : _≡_ {A = ℕ} 0 1 = cc (sym (ap (λ b. cond b (first-fault ts) (Some (t .number, t .place))) h) ∙ e) in omega arith)
 
 module _ (f : Func) where
-  insts-each : (i n k : ℕ) → first-fault (inst-tests f i n) ≡ None → k < n → (row-test f (i + k) .passes ≡ true) × (numbers-test f (i + k) .passes ≡ true)
+  pub insts-each : (i n k : ℕ) → first-fault (inst-tests f i n) ≡ None → k < n → (row-test f (i + k) .passes ≡ true) × (numbers-test f (i + k) .passes ≡ true)
   insts-each i zero k e h = absurd (omega arith)
   insts-each i (suc n) zero e h =
       let a = first-passes (row-test f i) (numbers-test f i ∷ inst-tests f (suc i) n) e in

@@ -10,6 +10,7 @@ use lib.ListN.{length}
 use Rattle.checks.specs.Checks.{entry-fits, destinations-of-block, is-entry, is-before, same-flag, entry-test, entry-tests, inst-tests, row-test, numbers-test, row-fits}
 use Rattle.checks.specs.Steps.{maybe-ordered, kept-entry-fits, Insts-pass}
 use Rattle.checks.specs.Tests.{all-pass, first-fault}
+use Rattle.checks.proofs.FactsHold.{insts-each}
 use Rattle.checks.proofs.NumberTold.{two-pass, row-says}
 use Rattle.function.proofs.Places.Ends.{ending-is-last}
 use Rattle.function.proofs.Places.Insts.{inst-there, last-is-ending}
@@ -77,29 +78,13 @@ module _ (f : Func) (n e : ℕ) where
   pub entries-all : n ≤ e → first-fault (entry-tests f e (n - e)) ≡ None
   entries-all h = let m : n - e ≡ 0 = omega arith in rw m
 
-some-none : (p : ℕ × ℕ) → Some p ≡ None → ⊥
-some-none p e = let z : _≡_ {A = ℕ} 0 1 = cc in omega arith
-
--- what passing instructions say: every row fits, so no block has more than two destinations
-rows-from : (f : Func) (i n k : ℕ) → first-fault (inst-tests f i n) ≡ None → k < n → row-test f (i + k) .passes ≡ true
-rows-from f i zero k e h = absurd (omega arith)
-rows-from f i (suc n) k e h = go (row-test f i .passes) refl (numbers-test f i .passes) refl k h (rows-from f (suc i) n)
-  where
-    go : (p : Bool) → row-test f i .passes ≡ p → (q : Bool) → numbers-test f i .passes ≡ q → (k : ℕ) → k < suc n
-        → ((k : ℕ) → first-fault (inst-tests f (suc i) n) ≡ None → k < n → row-test f (suc i + k) .passes ≡ true) → row-test f (i + k) .passes ≡ true
-    go false a q b k h ih = absurd (some-none (3, i) (sym (ap (λ t. cond t (first-fault (numbers-test f i ∷ inst-tests f (suc i) n)) (Some (3, i))) a) ∙ e))
-    go true a false b k h ih = absurd (some-none (4, i) (sym (ap₂ (λ s t. cond s (cond t (first-fault (inst-tests f (suc i) n)) (Some (4, i))) (Some (3, i))) a b) ∙ e))
-    go true a true b zero h ih = ap (λ j. row-test f j .passes) (omega arith) ∙ a
-    go true a true b (suc k) h ih =
-        let r = sym (ap₂ (λ s t. cond s (cond t (first-fault (inst-tests f (suc i) n)) (Some (4, i))) (Some (3, i))) a b) ∙ e in
-        ap (λ j. row-test f j .passes) (let z : i + suc k ≡ suc i + k = omega arith in z) ∙ ih k r (omega arith)
-
+-- every row fits, so no block has more than two destinations
 pub few-kept : (f : Func) → Within f → Insts-pass f → (b : ℕ) → b < length (f .blocks) → length (destinations-of-block f b) ≤ 2
 few-kept f w p b h =
     let (i, l, last, blk) = ending-is-last f w b h in
     let (x, c, ix, cx) = inst-there f i l in
     let end = last-is-ending f i (block-at b) last blk ∙ ix in
-    let row = ap (λ j. row-test f j .passes) (let z : i ≡ 0 + i = omega arith in z) ∙ rows-from f 0 (length (all-insts f)) i p l in
+    let row = ap (λ j. row-test f j .passes) (let z : i ≡ 0 + i = omega arith in z) ∙ insts-each f 0 (length (all-insts f)) i p l .0 in
     let r : row-fits f x (last-of f i) (results-of f i) ≡ true = sym (ap (λ o. elim o [ None ↦ true | Some y ↦ row-fits f y (last-of f i) (results-of f i) ]) ix) ∙ row in
     let few = row-says f x (last-of f i) (results-of f i) r .0 in
     let e : length (destinations-of-block f b) ≡ length (x .destinations) = ap (λ o. length (list-in o (λ y. y .destinations))) end in

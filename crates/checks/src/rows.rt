@@ -1,7 +1,7 @@
 // Each instruction looks as its opcode's row says.
-ghost use mathlib.Core.Bool.{_&&_, _||_, not};
+ghost use mathlib.Core.Bool.{_&&_, _||_};
 ghost use mathlib.Core.Path.{_≡_};
-ghost use Rattle.checks.specs.Checks.{width-fits, first-type, constant-fits, shape-of, shape-fits, row-fits, same-flag, with-inst};
+ghost use Rattle.checks.specs.Checks.{width-fits, first-type, constant-fits, shape-fits, row-fits, same-flag, with-inst};
 ghost use Rattle.function.specs.Answers.{Shows, last-of, results-of, inst-of, option-in};
 ghost use Rattle.reader.specs.Data.{Func};
 use clif::entities::Inst;

@@ -1,7 +1,6 @@
 // Each use comes after its definition, in the order's order.
 ghost use lib.ListN.{length};
 ghost use mathlib.Core.Path.{_≡_};
-ghost use Prim.Native.Nat.{ℕ};
 ghost use Rattle.checks.specs.Checks.{ordered-before, inst-before, def-before, value-before, uses-tests};
 ghost use Rattle.checks.specs.Steps.{fault-at};
 ghost use Rattle.checks.specs.Tests.{first-fault, fault-of};
