@@ -1,4 +1,6 @@
 // What lowering knows of a function before it begins.
+#![tactic(auto)]
+
 pub mod states;
 pub mod table;
 pub mod uses;

@@ -1,4 +1,6 @@
 // The checks of a function file, and the call that takes a file.
+#![tactic(auto)]
+
 pub mod insts;
 pub mod load;
 pub mod numbers;

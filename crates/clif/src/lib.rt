@@ -1,4 +1,6 @@
 // What a function is made of: entities, types, opcodes, and the refusals of the product.
+#![tactic(auto)]
+
 pub mod entities;
 pub mod opcodes;
 pub mod refusals;

@@ -1,4 +1,6 @@
 // The tables of a function, and the checked function with its answers.
+#![tactic(auto)]
+
 pub mod answers;
 pub mod cells;
 pub mod fill;

@@ -1,12 +1,12 @@
 -- What is left of a file is the next record and then what is left.
-use Rattle.std.proofs.Common.{◌≡◌, ℕ, zero, suc, ◌+◌, ◌-◌, ◌*◌, ◌<◌, ◌≤◌, Bool, true, false, cond, eqb, leb, List, [], ◌∷◌, ◌++◌, length, take, drop, Some, None, Option, sym, refl, ap, ◌∙◌, arith}
+use Rattle.std.proofs.Common.{◌≡◌, ℕ, zero, suc, ◌-◌, ◌<◌, Bool, true, false, cond, eqb, leb, List, [], ◌∷◌, length, take, drop, Some, None, Option, sym, refl, ap, ◌∙◌, arith}
 use Rattle.std.proofs.lemmas.List.{length-drop}
 use Rattle.reader.specs.Data.{limit}
 use Rattle.reader.specs.declared.totals.Kind.{Kind}
 use Rattle.clif.specs.declared.entities.Entry.{Entry}
 use Rattle.clif.specs.declared.types.«Type».{«Type» as Ty}
-use Rattle.reader.specs.Data.{Instruction, Body}
-use Rattle.reader.specs.Reading.{Reads, Spot, Read, got, fault, after, place, Outcome, done, refused, ended, repeated, instruction, heading, body, order_entry, count, func, admitted, number, number_of, raised, total}
+use Rattle.reader.specs.Data.{Instruction}
+use Rattle.reader.specs.Reading.{Spot, Read, got, fault, after, place, done, refused, ended, repeated, instruction, heading, body, order_entry, count, func, admitted, number, number_of, raised, total}
 use Rattle.reader.proofs.Turns.{after_back, repeated_length}
 use Rattle.reader.specs.Told.{spot}
 use Rattle.reader.specs.declared.reader.Reader.{Reader}

@@ -1,5 +1,5 @@
 -- Lists of words and of types, read at once: what the code tests is what reading one by one finds.
-use Rattle.std.proofs.Common.{◌≡◌, ℕ, zero, suc, ◌+◌, ◌-◌, ◌*◌, ◌/◌, ◌%◌, ◌<◌, ◌≤◌, min, Bool, true, false, cond, leb, List, [], ◌∷◌, ◌++◌, length, get_or, take, drop, is_some, Some, None, Ok, Err, Option, Result, sym, refl, ap, ◌∙◌, inl, inr, ⊎_elim, add-zero, arith, Bor, MatchResult}
+use Rattle.std.proofs.Common.{◌≡◌, ℕ, zero, suc, ◌+◌, ◌-◌, ◌*◌, ◌%◌, ◌<◌, ◌≤◌, min, Bool, true, false, cond, List, [], ◌∷◌, length, get_or, take, drop, is_some, Some, None, Ok, Err, Option, Result, sym, refl, ap, ◌∙◌, ⊎_elim, add-zero, arith, Bor, MatchResult}
 use Rattle.clif.specs.Types.{type_of}
 use Rattle.clif.specs.declared.types.«Type».{«Type» as Ty}
 use Rattle.std.proofs.lemmas.List.{drop_more, take_all}
@@ -8,7 +8,7 @@ use Rattle.reader.specs.declared.fields.Fields.{Fields}
 use Rattle.reader.specs.Told.{spot, told, Taken, Cut}
 use Rattle.std.proofs.lemmas.Bool.{le-leb, cases_lt}
 use Rattle.reader.specs.declared.totals.Totals.{Totals}
-use Rattle.reader.specs.Reading.{Spot, Read, got, fault, after, place, number, number_of, repeated, value, named}
+use Rattle.reader.specs.Reading.{Spot, got, fault, repeated, value, named}
 use Rattle.reader.specs.Parts.{words_of, types_of, typed_front}
 
 module _ (size : ℕ) (ts : Totals) where

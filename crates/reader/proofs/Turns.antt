@@ -1,6 +1,6 @@
 -- A loop that reads n things of one form.
 use Rattle.std.proofs.Common.{◌≡◌, ℕ, zero, suc, ◌+◌, ◌-◌, ◌<◌, ◌≤◌, List, [], ◌∷◌, ◌++◌, length, IfSome, Some, None, Ok, Err, Option, Result, sym, refl, ap, ◌∙◌, arith}
-use Rattle.std.proofs.lemmas.List.{append_assoc, append-nil}
+use Rattle.std.proofs.lemmas.List.{append_assoc}
 use Rattle.reader.specs.Reading.{Reads, Spot, Read, got, fault, after, repeated, destination}
 use Rattle.clif.specs.declared.refusals.Refusal.{Refusal}
 use Rattle.reader.specs.Parts.{several}

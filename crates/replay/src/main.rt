@@ -1,5 +1,7 @@
 // Prints the text of each file of a list, one after another. The list has, for each file, its length in three bytes,
 // lowest first, and its bytes.
+#![tactic(auto)]
+
 use std::io;
 use std::io::Read;
 use text::shown;

@@ -1,4 +1,6 @@
 // Prints the function that standard input holds, or why it is refused.
+#![tactic(auto)]
+
 use std::io;
 use std::io::Read;
 use text::shown;

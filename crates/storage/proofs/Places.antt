@@ -1,5 +1,5 @@
 -- Lists in places: what a push, a pop and a look-up do to the front and the back of a slice.
-use Rattle.std.proofs.Common.{◌≡◌, ℕ, zero, suc, ◌+◌, ◌-◌, ◌<◌, ◌≤◌, min, eqb, leb, List, [], ◌∷◌, ◌++◌, length, get_or, take, drop, set, Some, None, Ok, Err, Option, sym, refl, ap, ◌∙◌, subst, ⊎_elim, arith}
+use Rattle.std.proofs.Common.{◌≡◌, ℕ, zero, suc, ◌+◌, ◌-◌, ◌<◌, ◌≤◌, min, eqb, leb, List, [], ◌∷◌, ◌++◌, length, get_or, take, drop, set, Some, Ok, Err, sym, refl, ap, ◌∙◌, ⊎_elim, arith}
 use Rattle.std.proofs.lemmas.List.{take_all, drop_all, drop_more, take_more, take_more_set, drop-set-lt, take-take, length-drop, length-take, get_or-take, length-append, get_or_append_left, take_at, drop_at, append-nil}
 use Rattle.std.proofs.lemmas.Bool.{cases_lt, le-leb, lt-leb, eq-eqb, ne_eqb}
 use Rattle.storage.specs.Held.{Held, pushed, push_answer, PushLaws, Popped, Turned}

@@ -1,4 +1,5 @@
 // Lists, tables and the reversal, run on examples.
+#![tactic(auto)]
 
 #[cfg(test)]
 mod tests {

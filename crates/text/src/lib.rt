@@ -1,4 +1,6 @@
 // The text that `show` prints for a file. docs/format.md defines it.
+#![tactic(auto)]
+
 ghost use Rattle.std.specs.Prelude.{◌≡◌, IfOk, string_bytes};
 ghost use Rattle.clif.specs.Refusals.{refusal_number, refusal_place};
 ghost use Rattle.text.specs.Text.{refusal_line, Shown};

@@ -1,4 +1,3 @@
-use Rattle.std.proofs.Common.{◌≡◌}
 use Rattle.storage.proofs.Turned.{turned_more}
 use Rattle.storage.proofs.reverse.reverse.Goals as goal
 

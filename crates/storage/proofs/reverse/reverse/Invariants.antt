@@ -1,4 +1,3 @@
-use Rattle.std.proofs.Common.{length}
 use Rattle.storage.proofs.Turned.{HalfTurned}
 use Rattle.storage.proofs.reverse.reverse.Given as goal
 

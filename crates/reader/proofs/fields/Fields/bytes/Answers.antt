@@ -1,4 +1,4 @@
-use Rattle.std.proofs.Common.{take, refl, ap, ◌∙◌, arith}
+use Rattle.std.proofs.Common.{take, refl, ap, arith}
 use Rattle.std.proofs.lemmas.List.{take_rest}
 use Rattle.reader.proofs.fields.Fields.bytes.Goals as goal
 

@@ -5,4 +5,4 @@ use Rattle.reader.proofs.Turns.{Went}
 use Rattle.reader.proofs.fields.Fields.destination_list.Given as goal
 
 abbrev pub invariant-loop-k : goal.invariant-loop-k
-invariant-loop-k l = Went destination l.initial.self.size l.n l.-k (spot l.initial.self) (spot l.self) × (l.self.size ≡ l.initial.self.size)
+invariant-loop-k l = Went destination l.initial.self.size l.n l._k (spot l.initial.self) (spot l.self) × (l.self.size ≡ l.initial.self.size)

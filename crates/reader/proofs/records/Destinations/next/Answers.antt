@@ -1,4 +1,4 @@
-use Rattle.std.proofs.Common.{◌≡◌, ◌-◌, sym, refl, ap, ◌∙◌}
+use Rattle.std.proofs.Common.{◌-◌, sym, ap, ◌∙◌}
 use Rattle.reader.specs.Records.{next_destination}
 use Rattle.reader.proofs.Turns.{next_told, next_falls}
 use Rattle.reader.proofs.records.Destinations.next.Goals as goal

@@ -1,6 +1,5 @@
-use Rattle.std.proofs.Common.{◌-◌, sym, refl, ◌∙◌, subst, arith}
-use Rattle.storage.proofs.Places.{pop_last, pop_none, split}
-use Rattle.storage.specs.Held.{Popped}
+use Rattle.std.proofs.Common.{◌-◌, refl, arith}
+use Rattle.storage.proofs.Places.{pop_last, pop_none}
 use Rattle.storage.proofs.lists.PushList.pop.Goals as goal
 
 pub returns-then-len-eq0 : goal.returns-then-len-eq0
