@@ -1,5 +1,5 @@
 -- Stores that are equal table by table.
-use Rattle.std.proofs.Common.{◌≡◌, ℕ, Option, refl}
+use Rattle.std.proofs.Common.{◌≡◌, ℕ, Option}
 use Rattle.clif.specs.declared.entities.Entry.{Entry}
 use Rattle.clif.specs.declared.entities.Value.{Value}
 use Rattle.function.specs.Cells.{Cells}

@@ -1,5 +1,5 @@
 -- The instruction that ends a block, by its number.
-use Rattle.std.proofs.Common.{◌≡◌, ℕ, zero, suc, ◌+◌, ◌-◌, ◌<◌, ◌≤◌, true, List, [], ◌∷◌, length, Some, sym, refl, ap, ◌∙◌, subst, add-zero, zero-add, arith}
+use Rattle.std.proofs.Common.{◌≡◌, ℕ, zero, suc, ◌+◌, ◌-◌, ◌<◌, ◌≤◌, true, List, [], ◌∷◌, length, Some, refl, zero-add, arith}
 use Rattle.function.proofs.Places.Blocks.{size, before}
 use Rattle.function.proofs.Places.Insts.{rows, rows_in, length_rows, length_rows_in, stands_at}
 use Rattle.function.proofs.Places.Lists.{nth_front, nth_behind, nth_within}

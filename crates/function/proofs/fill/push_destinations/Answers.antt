@@ -1,4 +1,4 @@
-use Rattle.std.proofs.Common.{◌≡◌, ◌+◌, ◌≤◌, sym, refl, ap, ◌∙◌, arith}
+use Rattle.std.proofs.Common.{sym, refl, ap, ◌∙◌, arith}
 use Rattle.function.specs.Cells.{cells, pushed_all}
 use Rattle.function.specs.Filling.{placed}
 use Rattle.function.proofs.Loops.{gather, gather_is, dest_row_next, dest_args_next}
@@ -21,16 +21,16 @@ loop-d-preserved c =
     let ds = destinations_of c.next.new.self in
     let all = destinations_of c.loop-d.rest in
     let u = cells c.loop-d.uses in
-    let v = cells c.push-words.new.uses in (
+    let v = cells c.push_words.new.uses in (
       omega (arith, c.loop-d.invariant.0, c.in-Some.ensures.falls, ap (λ k. k.count) c.add.ensures),
-      dest_row_next d ds all u v c.in-Some.ensures.hands c.push-words.ensures c.loop-d.seen c.add.new.self c.len.result c.len.ensures.value c.add.ensures ∙ c.loop-d.invariant.1,
-      dest_args_next d ds all u v c.in-Some.ensures.hands c.push-words.ensures ∙ c.loop-d.invariant.2,
+      dest_row_next d ds all u v c.in-Some.ensures.hands c.push_words.ensures c.loop-d.seen c.add.new.self c.len.result c.len.ensures.value c.add.ensures ∙ c.loop-d.invariant.1,
+      dest_args_next d ds all u v c.in-Some.ensures.hands c.push_words.ensures ∙ c.loop-d.invariant.2,
     )
 
 pub returns : goal.returns
 returns c =
     let u = cells c.loop-d.uses in
-    let none = c.in-default.ensures.hands in
+    let none = c.in_default.ensures.hands in
     record {
       kept = gather_is c.loop-d.seen _ (sym (ap (λ ds. gather c.loop-d.seen (placed ds u)) none) ∙ c.loop-d.invariant.1);
       pushed = sym (ap (λ ds. pushed_all 4096 (flat_map (λ d. d.args) ds) u) none) ∙ c.loop-d.invariant.2;

@@ -4,4 +4,4 @@ use Rattle.function.specs.Filling.{push_numbers}
 use Rattle.function.proofs.fill.push_numbers.Given as goal
 
 abbrev pub invariant-loop-k : goal.invariant-loop-k
-invariant-loop-k l = push_numbers (l.n - l.-k) (cells l.numbers) ≡ push_numbers l.n (cells l.initial.numbers)
+invariant-loop-k l = push_numbers (l.n - l._k) (cells l.numbers) ≡ push_numbers l.n (cells l.initial.numbers)

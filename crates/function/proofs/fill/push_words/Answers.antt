@@ -1,4 +1,4 @@
-use Rattle.std.proofs.Common.{◌≡◌, sym, refl, ap, ◌∙◌, arith}
+use Rattle.std.proofs.Common.{sym, refl, ◌∙◌, arith}
 use Rattle.function.specs.Cells.{cells}
 use Rattle.function.proofs.Loops.{words_more, words_all}
 use Rattle.function.proofs.fill.push_words.Goals as goal

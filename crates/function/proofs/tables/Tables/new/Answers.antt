@@ -1,4 +1,4 @@
-use Rattle.function.specs.Holding.{view, zero_store}
+use Rattle.function.specs.Holding.{zero_store}
 use Rattle.function.proofs.Stores.{same_store}
 use Rattle.function.proofs.tables.Tables.new.Goals as goal
 

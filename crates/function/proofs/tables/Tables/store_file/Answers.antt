@@ -1,4 +1,4 @@
-use Rattle.std.proofs.Common.{◌≡◌, ◌<◌, IfSome, Ok, sym, refl, ap, ◌∙◌, subst}
+use Rattle.std.proofs.Common.{◌<◌, IfSome, Ok, sym, refl, ap, ◌∙◌, subst}
 use Rattle.function.specs.Filling.{stored, tail_of}
 use Rattle.function.specs.Holding.{view}
 use Rattle.function.proofs.Whole.{record_stored, file_stored}
@@ -9,37 +9,37 @@ use Rattle.function.proofs.tables.Tables.store_file.Goals as goal
 pub loop-item-init : goal.loop-item-init
 loop-item-init c = refl
 
-pub returns-in-err-item : goal.returns-in-err-item
-returns-in-err-item c =
+pub returns-in_err-item : goal.returns-in_err-item
+returns-in_err-item c =
     let s = view c.args.self.now in
     let u = view c.loop-item.self in
-    let x = c.in-ok-reader.reader in
-    let p = err_from_is_err_and c.from-residual-in-err-item.result c.from-residual-in-err-item.ensures.1 in
+    let x = c.in_ok-reader.reader in
+    let p = err_from_is_err_and c.from_residual-in_err-item.result c.from_residual-in_err-item.ensures.1 in
     rw (p.1, p.2) (record {
-      stored = ap (mapped_outcome (λ f. stored (tail_of f) s)) c.in-ok-reader.ensures.begins ∙ sym (file_stored x s c.in-ok-reader.ensures.fresh)
-          ∙ sym c.loop-item.invariant ∙ ap (mapped_outcome (λ t. stored t u)) c.in-err-item.ensures.hands;
+      stored = ap (mapped_outcome (λ f. stored (tail_of f) s)) c.in_ok-reader.ensures.begins ∙ sym (file_stored x s c.in_ok-reader.ensures.fresh)
+          ∙ sym c.loop-item.invariant ∙ ap (mapped_outcome (λ t. stored t u)) c.in_err-item.ensures.hands;
       law = c.new.ensures.law;
     })
 
 pub loop-item-smaller : goal.loop-item-smaller
-loop-item-smaller c = subst (λ o. IfSome o (λ _. due c.next.new.self < due c.loop-item.reader)) c.in-Some.is c.in-ok-item.ensures.falls
+loop-item-smaller c = subst (λ o. IfSome o (λ _. due c.next.new.self < due c.loop-item.reader)) c.in-Some.is c.in_ok-item.ensures.falls
 
 pub loop-item-preserved : goal.loop-item-preserved
 loop-item-preserved c =
     let y = c.next.new.self in
-    record_stored c.in-Some.item c.loop-item.reader y (view c.loop-item.self) (view c.store.new.self) c.at-block-end.result
-    (c.in-ok-item.ensures.hands ∙ ap (λ o. handed (Ok o) (left y)) c.in-Some.is) c.at-block-end.ensures
-    (subst (λ o. Counts o y) c.in-Some.is c.in-ok-item.ensures.counts) c.store.ensures
+    record_stored c.in-Some.item c.loop-item.reader y (view c.loop-item.self) (view c.store.new.self) c.at_block_end.result
+    (c.in_ok-item.ensures.hands ∙ ap (λ o. handed (Ok o) (left y)) c.in-Some.is) c.at_block_end.ensures
+    (subst (λ o. Counts o y) c.in-Some.is c.in_ok-item.ensures.counts) c.store.ensures
     ∙ c.loop-item.invariant
 
 pub returns : goal.returns
 returns c =
     let s = view c.args.self.now in
     let u = view c.loop-item.self in
-    let x = c.in-ok-reader.reader in
+    let x = c.in_ok-reader.reader in
     let y = c.next.new.self in
     record {
-      stored = ap (mapped_outcome (λ f. stored (tail_of f) s)) c.in-ok-reader.ensures.begins ∙ sym (file_stored x s c.in-ok-reader.ensures.fresh)
-          ∙ sym c.loop-item.invariant ∙ ap (mapped_outcome (λ t. stored t u)) (c.in-ok-item.ensures.hands ∙ ap (λ o. handed (Ok o) (left y)) c.in-default.is);
+      stored = ap (mapped_outcome (λ f. stored (tail_of f) s)) c.in_ok-reader.ensures.begins ∙ sym (file_stored x s c.in_ok-reader.ensures.fresh)
+          ∙ sym c.loop-item.invariant ∙ ap (mapped_outcome (λ t. stored t u)) (c.in_ok-item.ensures.hands ∙ ap (λ o. handed (Ok o) (left y)) c.in_default.is);
       law = c.new.ensures.law;
     }
