@@ -1,22 +1,20 @@
 -- What passing every test says.
-use Rattle.std.proofs.Common.{◌≡◌, ℕ, zero, suc, ◌+◌, ◌<◌, ◌≤◌, Bool, true, false, cond, not, ◌&&◌, ◌||◌, eqb, ltb, List, [], ◌∷◌, ◌++◌, length, is_some, Some, None, Option, sym, refl, ap, ◌∙◌, ap₂, arith}
-use Rattle.checks.specs.Checks.{row_test, numbers_test, entry_test, uses_test, inst_tests, entry_tests, uses_tests, all_tests, same_flag, is_entry, is_before, entry_fits, destinations_of_block, row_fits, numbers_fit, shape_fits, shape_of, destination_fits, value_exists, value_before, uses_fit}
+use Rattle.std.proofs.Common.{◌≡◌, ℕ, zero, suc, ◌+◌, ◌<◌, ◌≤◌, Bool, true, false, cond, not, ◌&&◌, ◌||◌, eqb, ltb, List, [], ◌∷◌, ◌++◌, length, is_some, Some, None, Option, sym, refl, ap, ◌∙◌, arith}
+use Rattle.checks.specs.Checks.{row_test, numbers_test, entry_test, uses_test, inst_tests, entry_tests, uses_tests, all_tests, same_flag, is_entry, is_before, entry_fits, destinations_of_block, row_fits, numbers_fit, shape_fits, shape_of, value_exists, uses_fit}
 use Rattle.checks.specs.Facts.{Facts}
 use Rattle.checks.specs.Tests.{Test, all_pass, first_fault}
 use Rattle.clif.specs.Rows.{row_of, within_span}
 use Rattle.clif.specs.declared.entities.Block.{Block}
 use Rattle.clif.specs.declared.entities.Entry.{Entry}
 use Rattle.clif.specs.declared.entities.Entry.TheVariants.{Block as to_block, Edge as to_edge}
-use Rattle.clif.specs.declared.entities.Value.{Value}
 use Rattle.function.proofs.Places.Insts.{length_rows_in}
 use Rattle.function.proofs.Places.Lists.{nth_within}
-use Rattle.function.specs.Answers.{all_insts, inst_of, block_of, last_of, results_of, entry_of_block, entry_of_edge, list_in}
+use Rattle.function.specs.Answers.{all_insts, inst_of, block_of, last_of, results_of, entry_of_block, entry_of_edge}
 use Rattle.function.specs.Numbering.{nth, uses_of, inst_rows, none_before}
 use Rattle.reader.specs.Data.{Instruction, Func}
 use Rattle.reader.specs.Reading.{block_at}
 use Rattle.reader.specs.Within.{Within}
-use Rattle.std.proofs.lemmas.Bool.{and_parts, ltb-true, eqb-true, true≢false, eq-eqb}
-use Rattle.std.specs.Option.{option_map}
+use Rattle.std.proofs.lemmas.Bool.{and_parts, ltb-true, eqb-true, true≢false}
 
 -- the tests before and behind, and each of a list made by a step
 front_passes : (ts us : List Test) → first_fault (ts ++ us) ≡ None → first_fault ts ≡ None

@@ -3,7 +3,7 @@ use Rattle.std.proofs.Common.{◌≡◌, ℕ, Bool, true, false, cond, List, [],
 use Rattle.checks.proofs.FactsHold.{facts_hold}
 use Rattle.checks.specs.Checks.{all_tests}
 use Rattle.checks.specs.Tests.{Test, first_fault, fault_of}
-use Rattle.checks.specs.Verdict.{judged, first_fault_of, Accepted, Loaded, Checked}
+use Rattle.checks.specs.Verdict.{judged, Accepted, Loaded}
 use Rattle.clif.specs.Refusals.{refusal_number, refusal_place}
 use Rattle.clif.specs.declared.refusals.Refusal.{Refusal}
 use Rattle.function.specs.Holding.{Holds, view, zero_store, store_of}
@@ -11,7 +11,6 @@ use Rattle.function.specs.declared.tables.Tables.{Tables}
 use Rattle.reader.specs.Data.{Func}
 use Rattle.reader.specs.Laws.{FormatLaw}
 use Rattle.reader.specs.Reading.{Outcome, done, refused, read}
-use Rattle.reader.specs.Within.{Within}
 use Rattle.std.proofs.lemmas.Bool.{false≢true}
 
 -- tests behind tests

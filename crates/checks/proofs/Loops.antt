@@ -1,5 +1,5 @@
 -- Loops that test each element: what is left to test, one turn on.
-use Rattle.std.proofs.Common.{◌≡◌, ℕ, zero, suc, ◌+◌, ◌-◌, ◌<◌, ◌≤◌, Bool, true, false, cond, ◌&&◌, List, [], ◌∷◌, length, get_or, drop, Some, None, sym, refl, ap, ◌∙◌, arith}
+use Rattle.std.proofs.Common.{◌≡◌, ℕ, suc, ◌+◌, ◌-◌, ◌<◌, ◌≤◌, Bool, true, false, List, [], ◌∷◌, length, get_or, drop, Some, None, sym, refl, ap, ◌∙◌, arith}
 use Rattle.checks.specs.Checks.{same_type, same_types, row_test, numbers_test, inst_tests}
 use Rattle.checks.specs.Tests.{all_pass, first_fault}
 use Rattle.clif.specs.declared.entities.Value.{Value}

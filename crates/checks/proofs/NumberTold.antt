@@ -1,15 +1,14 @@
 -- What the tables say of the numbers that an instruction names, once its row fits.
-use Rattle.std.proofs.Common.{◌≡◌, ℕ, zero, suc, ◌<◌, ◌≤◌, Bool, true, false, cond, not, ◌&&◌, ◌||◌, leb, List, [], ◌∷◌, length, is_some, Some, None, Option, sym, refl, ap, ◌∙◌, ap₂, arith}
-use Rattle.checks.specs.Checks.{shape_fits, shape_of, row_fits, same_flag, constant_fits, destination_fits, value_exists, numbers_fit, with_inst, row_test}
+use Rattle.std.proofs.Common.{◌≡◌, ℕ, ◌≤◌, Bool, true, false, not, ◌&&◌, ◌||◌, leb, List, [], ◌∷◌, length, is_some, Some, None, Option, sym, refl, ap, ◌∙◌, ap₂, arith}
+use Rattle.checks.specs.Checks.{shape_fits, shape_of, row_fits, same_flag, destination_fits, value_exists, numbers_fit, with_inst, row_test}
 use Rattle.checks.specs.Steps.{maybe_fits, ends_fit}
 use Rattle.checks.specs.Tests.{all_pass}
-use Rattle.checks.specs.declared.rows.Shape.{Shape}
 use Rattle.clif.specs.Rows.{row_of, within_span}
 use Rattle.clif.specs.declared.entities.Block.{Block}
 use Rattle.clif.specs.declared.entities.Value.{Value}
 use Rattle.clif.specs.declared.opcodes.Opcode.{Opcode}
 use Rattle.clif.specs.declared.opcodes.Opcode.TheVariants.{Iconst, Iadd, Imul, Umulhi, Icmp, UaddOverflow, Load, Store, Call, Jump, Brif, Return, Trap}
-use Rattle.function.specs.Answers.{ending_of, destination_of_block, list_in, option_in, inst_of, block_of, last_of, results_of}
+use Rattle.function.specs.Answers.{ending_of, list_in, option_in, inst_of, block_of, last_of, results_of}
 use Rattle.function.specs.Numbering.{nth, uses_of}
 use Rattle.reader.specs.Data.{Destination, Instruction, Func}
 use Rattle.std.proofs.lemmas.List.{nil_from_length}

@@ -1,6 +1,6 @@
 -- What the tables say of an entry of the order, once the rows fit.
-use Rattle.std.proofs.Common.{◌≡◌, ℕ, zero, suc, ◌+◌, ◌-◌, ◌<◌, ◌≤◌, Bool, true, false, cond, ◌&&◌, eqb, ltb, List, [], ◌∷◌, length, is_some, Some, None, Option, sym, refl, ap, ◌∙◌, ap₂, ⊎_elim, arith}
-use Rattle.checks.specs.Checks.{entry_fits, destinations_of_block, is_entry, is_before, same_flag, entry_test, entry_tests, inst_tests, row_test, numbers_test, row_fits}
+use Rattle.std.proofs.Common.{◌≡◌, ℕ, zero, suc, ◌+◌, ◌-◌, ◌<◌, ◌≤◌, Bool, true, false, cond, ◌&&◌, eqb, ltb, List, [], ◌∷◌, length, is_some, Some, None, Option, sym, refl, ap, ◌∙◌, ⊎_elim, arith}
+use Rattle.checks.specs.Checks.{entry_fits, destinations_of_block, is_entry, is_before, same_flag, entry_test, entry_tests, row_test, row_fits}
 use Rattle.checks.specs.Steps.{maybe_ordered, kept_entry_fits, InstsPass}
 use Rattle.checks.specs.Tests.{all_pass, first_fault}
 use Rattle.checks.proofs.FactsHold.{insts_each}
@@ -11,10 +11,10 @@ use Rattle.reader.specs.Reading.{block_at}
 use Rattle.reader.specs.Within.{Within}
 use Rattle.clif.specs.declared.entities.Entry.{Entry}
 use Rattle.clif.specs.declared.entities.Entry.TheVariants.{Block as to_block, Edge as to_edge}
-use Rattle.function.specs.Answers.{destination_of_block, ending_of, entry_of_block, entry_of_edge, option_in, list_in, all_insts, last_of, results_of}
+use Rattle.function.specs.Answers.{ending_of, entry_of_block, entry_of_edge, option_in, list_in, all_insts, last_of, results_of}
 use Rattle.function.specs.Numbering.{nth}
-use Rattle.reader.specs.Data.{Destination, Instruction, Func}
-use Rattle.std.proofs.lemmas.Bool.{lt-ltb, le-ltb, cases_lt, ltb-true, cases_Bool}
+use Rattle.reader.specs.Data.{Instruction, Func}
+use Rattle.std.proofs.lemmas.Bool.{lt-ltb, le-ltb, cases_lt, ltb-true}
 
 nth_some : {X : Type 0} (xs : List X) (k : ℕ) → is_some (nth xs k) ≡ ltb k (length xs)
 nth_some [] k = sym (le-ltb k 0 (omega arith))

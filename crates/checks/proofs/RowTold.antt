@@ -1,6 +1,6 @@
 -- What the answers about an instruction say of its row.
-use Rattle.std.proofs.Common.{◌≡◌, ℕ, Bool, true, false, ◌&&◌, List, length, is_some, Some, None, Option, sym, refl, ap, ◌∙◌, ap₂, arith}
-use Rattle.checks.specs.Checks.{constant_fits, shape_fits, shape_of, row_fits}
+use Rattle.std.proofs.Common.{◌≡◌, ℕ, Bool, true, ◌&&◌, List, length, is_some, Some, None, Option, ap, ◌∙◌, ap₂, arith}
+use Rattle.checks.specs.Checks.{constant_fits, shape_fits, row_fits}
 use Rattle.checks.specs.declared.rows.Shape.{Shape}
 use Rattle.clif.specs.Rows.{row_of}
 use Rattle.clif.specs.declared.entities.Value.{Value}

@@ -1,15 +1,13 @@
 -- The tests of uses, block by block.
-use Rattle.std.proofs.Common.{◌≡◌, ℕ, zero, suc, ◌+◌, ◌-◌, ◌<◌, ◌≤◌, Bool, true, false, cond, not, ◌||◌, ltb, List, [], ◌∷◌, length, is_some, Some, None, Option, sym, refl, ap, ◌∙◌, ⊎_elim, arith}
-use Rattle.checks.specs.Checks.{uses_fit, uses_test, uses_tests, value_before}
+use Rattle.std.proofs.Common.{◌≡◌, ℕ, zero, suc, ◌+◌, ◌-◌, ◌<◌, ◌≤◌, true, false, cond, ltb, length, is_some, Some, None, Option, sym, ap, ◌∙◌, ⊎_elim, arith}
+use Rattle.checks.specs.Checks.{uses_test, uses_tests, value_before}
 use Rattle.checks.specs.Tests.{all_pass, first_fault}
-use Rattle.clif.specs.declared.entities.Block.{Block}
 use Rattle.function.proofs.Places.Blocks.{first_at_zero, end_is_next, end_is_all, end_is, before_bound}
 use Rattle.function.proofs.Places.Insts.{within_block}
-use Rattle.function.specs.Answers.{all_insts, inst_of, block_of, first_of, end_of, entry_of_block, list_in, number_in}
+use Rattle.function.specs.Answers.{all_insts, inst_of, first_of, end_of, entry_of_block, list_in, number_in}
 use Rattle.function.specs.Numbering.{uses_of, nth, block_rows}
 use Rattle.function.specs.declared.rows.BlockData.{BlockData}
 use Rattle.reader.specs.Data.{Func}
-use Rattle.reader.specs.Reading.{block_at}
 use Rattle.std.proofs.lemmas.Bool.{lt-ltb, le-ltb, cases_lt}
 
 -- what is left of the tests at instruction i

@@ -9,13 +9,13 @@ use Rattle.std.specs.List.{flat_map}
 
 pub loop-i-preserved : goal.loop-i-preserved
 loop-i-preserved c f s =
-    let start = work_of c.args.states.now c.args.multiple-stack.now in
-    let w = work_of c.loop-i.states c.loop-i.multiple-stack in
-    let next = work_of c.mark-inst.new.states c.mark-inst.new.multiple-stack in
-    inst_more f start w next c.loop-i.i (omega (arith, c.num-insts-insts.ensures.value f s)) (c.loop-i.invariant f s) (c.mark-inst.ensures.marks f s)
+    let start = work_of c.args.states.now c.args.multiple_stack.now in
+    let w = work_of c.loop-i.states c.loop-i.multiple_stack in
+    let next = work_of c.mark_inst.new.states c.mark_inst.new.multiple_stack in
+    inst_more f start w next c.loop-i.i (omega (arith, c.num_insts-insts.ensures.value f s)) (c.loop-i.invariant f s) (c.mark_inst.ensures.marks f s)
 
 pub returns : goal.returns
 returns c f s =
-    let start = work_of c.args.states.now c.args.multiple-stack.now in
-    let all = take_all c.loop-i.i (all_insts f) (omega (arith, c.num-insts-insts.ensures.value f s)) in
+    let start = work_of c.args.states.now c.args.multiple_stack.now in
+    let all = take_all c.loop-i.i (all_insts f) (omega (arith, c.num_insts-insts.ensures.value f s)) in
     c.loop-i.invariant f s ∙ ap (λ is. marked_all start (counts f (flat_map uses_of is))) all

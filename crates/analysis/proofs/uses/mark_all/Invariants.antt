@@ -7,4 +7,4 @@ use Rattle.reader.specs.Data.{Func}
 use Rattle.std.specs.List.{flat_map}
 
 abbrev pub invariant-loop-i : goal.invariant-loop-i
-invariant-loop-i l = (f : Func) → Shows l.func f → work_of l.states l.multiple-stack ≡ marked_all (work_of l.initial.states l.initial.multiple-stack) (counts f (flat_map uses_of (take l.i (all_insts f))))
+invariant-loop-i l = (f : Func) → Shows l.func f → work_of l.states l.multiple_stack ≡ marked_all (work_of l.initial.states l.initial.multiple_stack) (counts f (flat_map uses_of (take l.i (all_insts f))))

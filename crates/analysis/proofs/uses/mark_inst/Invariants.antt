@@ -6,5 +6,5 @@ use Rattle.reader.specs.Data.{Func}
 
 abbrev pub invariant-loop-val : goal.invariant-loop-val
 invariant-loop-val l =
-    ((f : Func) → Shows l.func f → work_of l.states l.multiple-stack ≡ marked_all (work_of l.initial.states l.initial.multiple-stack) (counts f (take l.val-index l.args)))
-    × (left (work_of l.states l.multiple-stack) ≤ left (work_of l.initial.states l.initial.multiple-stack))
+    ((f : Func) → Shows l.func f → work_of l.states l.multiple_stack ≡ marked_all (work_of l.initial.states l.initial.multiple_stack) (counts f (take l.val-index l.args)))
+    × (left (work_of l.states l.multiple_stack) ≤ left (work_of l.initial.states l.initial.multiple_stack))

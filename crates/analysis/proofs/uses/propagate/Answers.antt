@@ -10,23 +10,23 @@ use Rattle.clif.specs.declared.entities.Value.{Value}
 pub loop-value-smaller : goal.loop-value-smaller
 loop-value-smaller c =
     let p = c.in-Some.ensures in
-    let w = work_of c.loop-value.states c.loop-value.multiple-stack in
-    omega (arith, left_popped w (held_of c.pop.new.self) c.in-Some.value p.0, c.mark-def.ensures.falls)
+    let w = work_of c.loop-value.states c.loop-value.multiple_stack in
+    omega (arith, left_popped w (held_of c.pop.new.self) c.in-Some.value p.0, c.mark_def.ensures.falls)
 
 pub loop-value-preserved : goal.loop-value-preserved
 loop-value-preserved c f s =
     let p = c.in-Some.ensures in
     let i = c.loop-value.invariant f s in
-    let w = work_of c.loop-value.states c.loop-value.multiple-stack in
-    let after = work_of c.mark-def.new.states c.mark-def.new.multiple-stack in
-    let e = c.mark-def.ensures.marks f s in (
+    let w = work_of c.loop-value.states c.loop-value.multiple_stack in
+    let after = work_of c.mark_def.new.states c.mark_def.new.multiple_stack in
+    let e = c.mark_def.ensures.marks f s in (
       λ g. going_again f w (i.0 g) c.in-Some.value (held_of c.pop.new.self) p.0 p.1 after e,
       beyond_again f (states_of c.args.states.now) w (held_of c.pop.new.self) after (uses_behind f c.in-Some.value.0) i.1 e,
     )
 
 pub returns : goal.returns
 returns c f s =
-    let p = c.in-default.ensures in
+    let p = c.in_default.ensures in
     record {
       went = λ g. subst (λ (h : Held Value). Went f (record { states = c.loop-value.states.states.now; stack = h })) (sym p.1) (record { going = (c.loop-value.invariant f s).0 g; none = p.0 });
       beyond = (c.loop-value.invariant f s).1;

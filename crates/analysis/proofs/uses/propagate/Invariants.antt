@@ -7,8 +7,8 @@ use Rattle.reader.specs.Data.{Func}
 
 abbrev pub invariant-loop-value : goal.invariant-loop-value
 invariant-loop-value l = (f : Func) → Shows l.func f →
-    (Going f [] (work_of l.initial.states l.initial.multiple-stack) → Going f [] (work_of l.states l.multiple-stack))
+    (Going f [] (work_of l.initial.states l.initial.multiple_stack) → Going f [] (work_of l.states l.multiple_stack))
     × Beyond f (states_of l.initial.states) (states_of l.states)
 
 abbrev pub decreases-loop-value : goal.decreases-loop-value
-decreases-loop-value l = left (work_of l.states l.multiple-stack)
+decreases-loop-value l = left (work_of l.states l.multiple_stack)
