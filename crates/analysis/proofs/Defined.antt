@@ -1,10 +1,10 @@
 -- The first result of an instruction is defined by it.
-use Rattle.std.proofs.Common.{◌≡◌, ℕ, zero, suc, ◌+◌, ◌-◌, ◌<◌, ◌≤◌, Bool, List, [], ◌∷◌, ◌++◌, length, Some, None, Option, sym, refl, ap, ◌∙◌, subst, ⊎_elim, arith}
+use Rattle.std.proofs.Common.{◌≡◌, ℕ, zero, suc, ◌+◌, ◌-◌, ◌<◌, ◌≤◌, Bool, List, [], ◌∷◌, ◌++◌, length, Some, None, Option, sym, refl, ap, ◌∙◌, ⊎_elim, arith}
 use Rattle.analysis.specs.Uses.{first_result_of}
 use Rattle.clif.specs.declared.types.«Type».{«Type» as Ty}
 use Rattle.function.proofs.Places.Lists.{nth_front, nth_behind, nth_within}
-use Rattle.function.specs.Answers.{results_of, def_of_value, list_in}
-use Rattle.function.specs.Numbering.{Numbers, past_params, past_inst, past_insts, past_body, over_insts, over_blocks, is_last, defined, inst_row, inst_number, inst_rows, value_rows, values_from, nth, none_before}
+use Rattle.function.specs.Answers.{def_of_value, list_in}
+use Rattle.function.specs.Numbering.{Numbers, past_params, past_inst, past_insts, past_body, over_insts, over_blocks, is_last, defined, inst_row, inst_number, inst_rows, values_from, nth, none_before}
 use Rattle.function.specs.declared.rows.InstData.{InstData}
 use Rattle.function.specs.declared.rows.ValueData.{ValueData}
 use Rattle.function.specs.declared.rows.ValueDef.{ValueDef}

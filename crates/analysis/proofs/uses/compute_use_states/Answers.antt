@@ -1,9 +1,8 @@
-use Rattle.std.proofs.Common.{◌≡◌, ◌<◌, ◌≤◌, length, sym, refl, ap, ◌∙◌, arith}
+use Rattle.std.proofs.Common.{refl, ap, ◌∙◌, arith}
 use Rattle.analysis.proofs.Least.{computed, state_once}
 use Rattle.analysis.specs.Marks.{work_of, cleared}
 use Rattle.analysis.specs.Uses.{states_of, Enough}
 use Rattle.analysis.proofs.uses.compute_use_states.Goals as goal
-use Rattle.function.specs.Numbering.{value_rows}
 use Rattle.storage.specs.Held.{held_of}
 
 pub returns-then-room-values : goal.returns-then-room-values

@@ -1,4 +1,4 @@
-use Rattle.std.proofs.Common.{◌≡◌, ap, ◌∙◌, arith}
+use Rattle.std.proofs.Common.{ap, ◌∙◌, arith}
 use Rattle.analysis.proofs.Marking.{inst_more}
 use Rattle.analysis.specs.Marks.{marked_all, work_of, counts}
 use Rattle.analysis.proofs.uses.mark_all.Goals as goal

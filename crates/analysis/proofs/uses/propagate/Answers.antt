@@ -1,4 +1,4 @@
-use Rattle.std.proofs.Common.{◌≡◌, sym, subst, arith}
+use Rattle.std.proofs.Common.{sym, subst, arith}
 use Rattle.analysis.proofs.Marking.{left_popped}
 use Rattle.analysis.proofs.Least.{going_again, beyond_again}
 use Rattle.analysis.specs.Marks.{work_of, Went, uses_behind}

@@ -7,5 +7,5 @@ pub returns : goal.returns
 returns c =
     IfOk-weaker c.format.result _ _
     (λ s e f shows.
-    e ∙ (λ k. totals_line (c.num-blocks-blocks.ensures.value f shows k) (c.num-insts-insts.ensures.value f shows k) (c.num-values-values.ensures.value f shows k)))
+    e ∙ (λ k. totals_line (c.num_blocks-blocks.ensures.value f shows k) (c.num_insts-insts.ensures.value f shows k) (c.num_values-values.ensures.value f shows k)))
     c.format.ensures.ok

@@ -1,4 +1,4 @@
-use Rattle.std.proofs.Common.{◌≡◌, ◌<◌, ◌≤◌, length, get_or, refl, arith}
+use Rattle.std.proofs.Common.{◌≤◌, length, arith}
 use Rattle.std.proofs.lemmas.List.{get_or_past, set_past, get_or_default}
 use Rattle.analysis.specs.declared.states.ValueUseState.TheVariants.{Unused, Multiple}
 use Rattle.analysis.proofs.states.UseStates.mark.Goals as goal
