@@ -63,7 +63,7 @@ mod tests {
         list.clear();
         assert!(rt; list.is_empty());
         assert_eq!(rt; list.push(6), Ok(()));
-        assert_eq!(rt; list.as_slice(), &[6]);
+        assert_eq!(rt; list.as_slice(), [6].as_slice());
     }
 
     #[test]
