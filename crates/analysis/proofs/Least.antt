@@ -320,8 +320,8 @@ module _ (f : Func) (w : Work) (g : Going f [] w) (x : Value) (next : Held Value
   many_there : Many f x.0
   many_there = subst (Sure f x.0) (g.sound.full x.0 waited) (g.each x.0 (counted_below f x.0 x.0 self))
 
-  pub going_again : (after : Work) → after ≡ marked_all popped (counts f (uses_behind f x.0)) → Going f [] after
-  going_again after e =
+  pub going_again : (later : Work) → later ≡ marked_all popped (counts f (uses_behind f x.0)) → Going f [] later
+  going_again later e =
       let (r, a) = going_all f (x ∷ []) popped (counts f (uses_behind f x.0)) going_popped (fair_behind f x.0 many_there self) in
       let end = marked_all popped (counts f (uses_behind f x.0)) in
       subst (Going f []) (sym e) (record {
@@ -426,8 +426,8 @@ sure_capped f v zero e = sym e
 sure_capped f v (suc zero) e = sym e
 sure_capped f v (suc (suc n)) e = twice (omega arith)
 
-pub going_start : (f : Func) (w after : Work) → Counted f [] w → after ≡ marked_all w (counts f (uses f)) → Going f [] after
-going_start f w after c e =
+pub going_start : (f : Func) (w later : Work) → Counted f [] w → later ≡ marked_all w (counts f (uses f)) → Going f [] later
+going_start f w later c e =
     let d = counted_all f [] w (uses f) c in
     subst (Going f []) (sym e) (record {
       sound = d.sound;
