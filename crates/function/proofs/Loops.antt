@@ -52,19 +52,19 @@ words_all ws k c h j = let l = length-drop (2 * k) ws in rw (words_short (drop (
 
 -- what is left of a list of types, after k values
 module _ (def : ValueDef) where
-  abbrev pub rest-values : ℕ → List ℕ → Cells (Option ValueData) → Cells (Option ValueData)
-  rest-values k bs c = pushed_all 2048 (map Some (defined (at_index def) k (types_of bs))) c
+  abbrev pub rest_values : ℕ → List ℕ → Cells (Option ValueData) → Cells (Option ValueData)
+  rest_values k bs c = pushed_all 2048 (map Some (defined (at_index def) k (types_of bs))) c
 
   pub values_some : (ts : List ℕ) (i k j : ℕ) (t : Ty) (v : ValueDef) (c d : Cells (Option ValueData)) → i < length ts → Some t ≡ type_of (get_or ts i 0) → j ≡ k + 1 → v ≡ at_index def k
       → d ≡ pushed 2048 (Some (record { ty = t; def = v })) c
-      → (rest-values j (drop (i + 1) ts) d ≡ rest-values k (drop i ts) c) × (suc (length (types_of (drop (i + 1) ts))) ≡ length (types_of (drop i ts)))
+      → (rest_values j (drop (i + 1) ts) d ≡ rest_values k (drop i ts) c) × (suc (length (types_of (drop (i + 1) ts))) ≡ length (types_of (drop i ts)))
   values_some ts i k j t v c d h e n q f = let s : suc k ≡ k + 1 = omega arith in (rw (drop_more ts i 0 h, ← e, f, q, n, s), rw (drop_more ts i 0 h, ← e))
 
   pub values_none : (ts : List ℕ) (i k j : ℕ) (c d : Cells (Option ValueData)) → i < length ts → None ≡ type_of (get_or ts i 0) → j ≡ k → d ≡ c
-      → (rest-values j (drop (i + 1) ts) d ≡ rest-values k (drop i ts) c) × (length (types_of (drop (i + 1) ts)) ≡ length (types_of (drop i ts)))
+      → (rest_values j (drop (i + 1) ts) d ≡ rest_values k (drop i ts) c) × (length (types_of (drop (i + 1) ts)) ≡ length (types_of (drop i ts)))
   values_none ts i k j c d h e n f = (rw (drop_more ts i 0 h, ← e, n, f), rw (drop_more ts i 0 h, ← e))
 
-  pub values_all : (ts : List ℕ) (i k : ℕ) (c : Cells (Option ValueData)) → length ts ≤ i → (rest-values k (drop i ts) c ≡ c) × (length (types_of (drop i ts)) ≡ 0)
+  pub values_all : (ts : List ℕ) (i k : ℕ) (c : Cells (Option ValueData)) → length ts ≤ i → (rest_values k (drop i ts) c ≡ c) × (length (types_of (drop i ts)) ≡ 0)
   values_all ts i k c h = (rw (drop_all i ts h), rw (drop_all i ts h))
 
 pub pushed_append : {E : Type 0} (n : ℕ) (xs ys : List E) (c : Cells E) → pushed_all n (xs ++ ys) c ≡ pushed_all n ys (pushed_all n xs c)

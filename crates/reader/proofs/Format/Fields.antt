@@ -107,11 +107,11 @@ ranged_codes least most small =
 pub named_codes : {A : Type 0} (which : ℕ → Option A) (code : A → ℕ)
     → ((a : A) → code a < 256) → ((a : A) → which (code a) ≡ Some a) → ((n : ℕ) (a : A) → which n ≡ Some a → n ≡ code a)
     → Codes (λ a. Unit {0}) (λ a. code a ∷ []) (λ a. free) (named which)
-named_codes which code small this only-this =
+named_codes which code small this only_this =
     bind (λ n a. which n ≡ Some a) (λ a. []) (λ a. free) (λ s n size t. chosen (which n) t (place size s)) (number_codes 1)
     (λ s n h. choice (which n) (λ size. place size s))
     (λ a. (λ h. (code a, small a, this a), λ h. tt))
-    (λ n a h. ap (λ x. x ∷ []) (omega (arith, small a, only-this n a h)))
+    (λ n a h. ap (λ x. x ∷ []) (omega (arith, small a, only_this n a h)))
     (λ n a h k. refl)
   where
     choice : {A : Type 0} (o : Option A) (at : ℕ → ℕ) → Codes (λ a. o ≡ Some a) (λ a. []) (λ a. free) (λ size t. chosen o t (at size))
@@ -145,11 +145,11 @@ pub standing_codes : {A : Type 0} {ok : A → Type 0} {w : A → List ℕ} {cost
     → Codes (λ a. (stands a ≡ true) × ok a) w cost p
     → ((a : A) → ((stands a ≡ false) × ok a) ↔ (a ≡ absent)) → w absent ≡ [] → ((k : Kind) → cost absent k ≡ 0)
     → Codes (λ a. (stands a ≡ eqb (map / bit % 2) 1) × ok a) w cost (standing map bit absent p)
-standing_codes {A} {ok} {w} {cost} {p} map bit stands absent P only-absent bytes costs = go (eqb (map / bit % 2) 1)
+standing_codes {A} {ok} {w} {cost} {p} map bit stands absent P only_absent bytes costs = go (eqb (map / bit % 2) 1)
   where
     go : (b : Bool) → Codes (λ a. (stands a ≡ b) × ok a) w cost (cond b p (give absent))
     go true = P
-    go false = recode give_codes only-absent (λ a h. ap w h ∙ bytes) (λ a h k. ap (λ x. cost x k) h ∙ costs k)
+    go false = recode give_codes only_absent (λ a h. ap w h ∙ bytes) (λ a h k. ap (λ x. cost x k) h ∙ costs k)
 
 -- a list with its count
 abbrev pub counted_bytes : {A : Type 0} → ℕ → (A → List ℕ) → List A → List ℕ

@@ -76,9 +76,9 @@ flag_codes = named_codes flag_of (λ b. cond b 1 0) small found only_found
     only_found n b h = go (eqb n 0) (eqb n 1) refl refl h
       where
         go : (o i : Bool) → eqb n 0 ≡ o → eqb n 1 ≡ i → cond o (Some false) (cond i (Some true) None) ≡ Some b → n ≡ cond b 1 0
-        go true i is-o is-i s = let same : b ≡ false = cc in rw same (eqb-true n 0 is-o)
-        go false true is-o is-i s = let same : b ≡ true = cc in rw same (eqb-true n 1 is-i)
-        go false false is-o is-i s = let z : ◌≡◌ {A = ℕ} 0 1 = cc in absurd (omega arith)
+        go true i is_o is_i s = let same : b ≡ false = cc in rw same (eqb-true n 0 is_o)
+        go false true is_o is_i s = let same : b ≡ true = cc in rw same (eqb-true n 1 is_i)
+        go false false is_o is_i s = let z : ◌≡◌ {A = ℕ} 0 1 = cc in absurd (omega arith)
 
 -- an entry of the order: its map byte, and what follows
 abbrev entry_map : Entry → ℕ

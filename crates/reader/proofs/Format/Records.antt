@@ -101,8 +101,8 @@ rest_codes map small =
       λ h. (((((((tt, ap (λ (x : Instruction). x.opcode) h), ap (λ (x : Instruction). x.operands) h), ap (λ (x : Instruction). x.immediate) h), ap (λ (x : Instruction). x.results) h), ap (λ (x : Instruction). x.destinations) h), ap (λ (x : Instruction). x.flag) h), ap (λ (x : Instruction). x.location) h),
     ))
     (λ x. (
-      λ ((_, is-map), h).
-          let bits : Bits x map = six_bits _ _ _ _ _ _ map is-map in (
+      λ ((_, is_map), h).
+          let bits : Bits x map = six_bits _ _ _ _ _ _ map is_map in (
             tt,
             (
               tt,
@@ -171,7 +171,7 @@ under_map map (low, high) =
     keyed (λ h. h.1) (capped_codes 2 1 Insts (lit< tt)) λ b _.
     whole λ h. (λ ((_, p), q) i. (p i, q i), λ e. ((tt, ap (λ (h : List Ty × ℕ). h.0) e), ap (λ (h : List Ty × ℕ). h.1) e)))
     (λ h. (
-      λ ((_, is-map), (few, some)). (tt, ((one_bit (filled h.0) map is-map, (omega arith, every_unit h.0)), (some, tt))),
+      λ ((_, is_map), (few, some)). (tt, ((one_bit (filled h.0) map is_map, (omega arith, every_unit h.0)), (some, tt))),
       λ (_, ((bit, (few, _)), (some, _))). ((tt, one_number (filled h.0) map low high bit), (omega arith, some)),
     ))
     (λ h _. simp append-nil)
