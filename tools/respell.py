@@ -1,7 +1,8 @@
 #!/usr/bin/env python3
 """Brings the names of this repository's own definitions and lemmas to today's spelling.
 
-usage: python3 tools/respell.py      at the top, once, after the kit's port.py
+usage: python3 tools/respell.py          at the top, once, after the kit's port.py
+       python3 tools/respell.py --look   writes nothing, and prints each name with what it would become
 
 Words are joined by an underscore (`first-result` becomes `first_result`), facts and types are in camel case
 (`Fits-body` becomes `FitsBody`). Names that the library or Rattle itself made stay: only names that a file below

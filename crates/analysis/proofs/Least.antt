@@ -2,8 +2,8 @@
 use Rattle.std.proofs.Common.{◌≡◌, ℕ, zero, suc, ◌+◌, ◌-◌, ◌<◌, ◌≤◌, min, Bool, true, false, cond, eqb, ◌⊎◌, List, [], ◌∷◌, ◌++◌, length, get_or, take, drop, set, replicate, Some, None, count_by, Option, sym, refl, ap, ◌∙◌, subst, inl, inr, ⊎_elim, arith}
 use Rattle.analysis.proofs.Defined.{first_def}
 use Rattle.analysis.proofs.Marking.{open_mark_in}
-use Rattle.analysis.specs.Marks.{raised, turns, Work, stacked, marked, marked_all, is_open, counts, Waits, ManyNow, AllMany, Sure, Closed, inst_of_def, uses_behind, Sound, Going, Went, Beyond, Worked, cleared}
-use Rattle.analysis.specs.Uses.{first_result_of, counted_by, counted_on, is_value, counts_on, uses, use_count, used_by, Many, twice, again, StateOf, StateLaw, UseStatesFound, Enough}
+use Rattle.analysis.specs.Marks.{turns, Work, stacked, marked, marked_all, is_open, counts, Waits, ManyNow, AllMany, Sure, Closed, inst_of_def, uses_behind, Sound, Going, Went, Beyond, Worked, cleared}
+use Rattle.analysis.specs.Uses.{first_result_of, counted_by, counted_on, is_value, counts_on, uses, use_count, used_by, Many, twice, again, StateOf, StateLaw, UseStatesFound, Enough, raised}
 use Rattle.analysis.specs.declared.states.ValueUseState.{ValueUseState}
 use Rattle.analysis.specs.declared.states.ValueUseState.TheVariants.{Unused, Once, Multiple}
 use Rattle.clif.specs.declared.entities.Inst.{Inst}
@@ -500,6 +500,9 @@ beyond_all f w (u ∷ us) =
     beyond_more f w.states next.states (marked_all next (counts f us)).states (beyond_mark f w u.0 (counted_on f u.0) refl) (beyond_all f next us)
 
 -- clearing
+pub length_cleared : (n : ℕ) (xs : List ValueUseState) → length (cleared n xs) ≡ length xs
+length_cleared n xs = omega (arith, length-append (replicate (min n (length xs)) Unused) (drop n xs), length-replicate (min n (length xs)) Unused, length-drop n xs)
+
 module _ (f : Func) (xs : List ValueUseState) (h : length (value_rows f) ≤ length xs) where
   pub cleared_front : cleared (length (value_rows f)) xs ≡ replicate (length (value_rows f)) Unused ++ drop (length (value_rows f)) xs
   cleared_front = let e : min (length (value_rows f)) (length xs) ≡ length (value_rows f) = omega arith in ap (λ k. replicate k Unused ++ drop (length (value_rows f)) xs) e
@@ -508,9 +511,8 @@ module _ (f : Func) (xs : List ValueUseState) (h : length (value_rows f) ≤ len
   cleared_beyond =
       let n = length (value_rows f) in
       let e : min n (length xs) ≡ n = omega arith in
-      let r : length (replicate (min n (length xs)) Unused) ≡ min n (length xs) = length-replicate (min n (length xs)) Unused in
-      let size : length (cleared n xs) ≡ length xs = omega (arith, length-append (replicate (min n (length xs)) Unused) (drop n xs), length-drop n xs) in (
-        size,
+      let r : length (replicate (min n (length xs)) Unused) ≡ min n (length xs) = length-replicate (min n (length xs)) Unused in (
+        length_cleared n xs,
         λ v l.
             let k = v - n in
             let at : v ≡ length (replicate (min n (length xs)) Unused) + k = omega arith in
@@ -567,7 +569,6 @@ computed f xs h start counted after (a, b) e k c w =
       record {
         each = λ v l. subst (StateOf f v) (get_or_default after.states v Multiple Unused (omega arith)) (least f after went v l);
         beyond = whole.1;
-        len = size;
       },
       went.none,
     )

@@ -1,8 +1,8 @@
 -- Uses counted one after another.
 use Rattle.std.proofs.Common.{◌≡◌, ℕ, zero, suc, ◌+◌, ◌<◌, ◌≤◌, Bool, true, false, cond, List, [], ◌∷◌, ◌++◌, length, get_or, take, set, Some, None, count_by, Option, sym, refl, ap, ◌∙◌, ⊎_elim, arith}
 use lib.Seq.{take-set-lt}
-use Rattle.analysis.specs.Marks.{raised, turns, Work, stacked, marked, marked_all, is_open, left, counts}
-use Rattle.analysis.specs.Uses.{counted_on}
+use Rattle.analysis.specs.Marks.{turns, Work, stacked, marked, marked_all, is_open, left, counts}
+use Rattle.analysis.specs.Uses.{counted_on, raised, SameSize}
 use Rattle.reader.specs.Data.{Func, Instruction}
 use Rattle.function.specs.Answers.{all_insts, inst_of, list_in}
 use Rattle.std.specs.List.{flat_map}
@@ -10,12 +10,13 @@ use Rattle.analysis.specs.declared.states.ValueUseState.{ValueUseState}
 use Rattle.analysis.specs.declared.states.ValueUseState.TheVariants.{Unused, Once, Multiple}
 use Rattle.clif.specs.declared.entities.Value.{Value}
 use Rattle.reader.specs.Reading.{value_at}
-use Rattle.std.proofs.lemmas.List.{get_or_past, set_past, length-append, map-append, take_more, append-nil, append_assoc, get_or-take}
+use Rattle.std.proofs.lemmas.List.{get_or_past, set_past, length-append, map-append, take_more, append-nil, append_assoc, get_or-take, length-set}
 use Rattle.std.proofs.lemmas.List.Sums.{sum_by-set}
 use Rattle.std.proofs.lemmas.Bool.{cases_lt}
 use Rattle.function.specs.Numbering.{nth, uses_of}
 use Rattle.std.specs.Option.{option_map}
-use Rattle.storage.specs.Held.{Held, pushed}
+use Rattle.storage.proofs.Places.{push_laws}
+use Rattle.storage.specs.Held.{Held, capacity, pushed}
 
 -- one mark, and then others
 pub marked_more : (w : Work) (os : List (Option ℕ)) (o : Option ℕ) → marked_all w (os ++ (o ∷ [])) ≡ marked (marked_all w os) o
@@ -81,6 +82,25 @@ left_mark w (Some v) =
     let a = open_mark w.states v in
     let b = stacked_length (turns (get_or w.states v Multiple)) v w.stack in omega arith
 
+-- a mark keeps the sizes of table and stack
+abbrev pub Same : Work → Work → Type 0
+Same w after = SameSize w.states w.stack after.states after.stack
+
+stacked_capacity : (b : Bool) (v : ℕ) (h : Held Value) → capacity (stacked b v h) ≡ capacity h
+stacked_capacity true v h = (push_laws (value_at v) h).room
+stacked_capacity false v h = refl
+
+pub same_mark : (w : Work) (o : Option ℕ) → Same w (marked w o)
+unfolding marked
+same_mark w None = (refl, refl)
+same_mark w (Some v) = (
+  length-set w.states v (raised (get_or w.states v Multiple)),
+  stacked_capacity (turns (get_or w.states v Multiple)) v w.stack,
+)
+
+pub same_more : (start w next : Work) → Same start w → Same w next → Same start next
+same_more start w next a b = (b.0 ∙ a.0, b.1 ∙ a.1)
+
 -- one use more of an instruction; one instruction more
 pub use_more : (f : Func) (start w next : Work) (us : List Value) (i : ℕ) (d : Value) → i < length us
     → w ≡ marked_all start (counts f (take i us)) → next ≡ marked w (counted_on f (get_or us i d).0)
@@ -115,6 +135,10 @@ inst_more f start w next i h e n =
 pub left_popped : (w : Work) (next : Held Value) (x : Value) → w.stack.items ≡ next.items ++ (x ∷ []) → left (record { states = w.states; stack = next }) + 1 ≡ left w
 unfolding left
 left_popped w next x e = omega (arith, ap (λ (l : List Value). length l) e, length-append next.items (x ∷ []))
+
+pub popped_capacity : (x : Value) (before after : Held Value) → before.items ≡ after.items ++ (x ∷ []) → after.room ≡ x ∷ before.room → capacity after ≡ capacity before
+popped_capacity x before after e r =
+    omega (arith, ap (λ (l : List Value). length l) e, ap (λ (l : List Value). length l) r, length-append after.items (x ∷ []))
 
 -- the same within the first n states
 pub open_mark_in : (n : ℕ) (xs : List ValueUseState) (v : ℕ) → v < n → count_by is_open (take n (set xs v (raised (get_or xs v Multiple)))) + cond (turns (get_or xs v Multiple)) 1 0 ≡ count_by is_open (take n xs)

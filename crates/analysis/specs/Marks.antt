@@ -1,6 +1,6 @@
 -- What the private functions of the use states do: one use counted after another.
 use Rattle.std.specs.Prelude.{◌≡◌, ℕ, ◌+◌, ◌<◌, ◌≤◌, min, Bool, true, false, cond, ◌⊎◌, List, [], ◌∷◌, ◌++◌, map, length, take, drop, replicate, Some, None, count_by, Option, slice_index_or, slice_set}
-use Rattle.analysis.specs.Uses.{counted_on, states_of, use_count, Many}
+use Rattle.analysis.specs.Uses.{counted_on, raised, states_of, use_count, Many}
 use Rattle.analysis.specs.declared.states.UseStates.{UseStates}
 use Rattle.analysis.specs.declared.states.ValueUseState.{ValueUseState}
 use Rattle.analysis.specs.declared.states.ValueUseState.TheVariants.{Unused, Once, Multiple}
@@ -14,12 +14,6 @@ use Rattle.reader.specs.Data.{Func}
 use Rattle.reader.specs.Reading.{value_at}
 use Rattle.storage.specs.Held.{Held, held_of, pushed}
 use Rattle.storage.specs.declared.lists.PushList.{PushList}
-
--- one use more
-abbrev pub raised : ValueUseState → ValueUseState
-raised Unused = Once
-raised Once = Multiple
-raised Multiple = Multiple
 
 -- whether one use more makes the state Multiple for the first time
 abbrev pub turns : ValueUseState → Bool
@@ -121,10 +115,6 @@ Beyond f before after = (length after ≡ length before) × ((v : ℕ) → lengt
 pub record Went (f : Func) (w : Work) : Type 0 where
   pub going : Going f [] w
   pub none : w.stack.items ≡ []
-
--- the room for the stack, in all
-abbrev pub room_in : Work → ℕ
-room_in w = length w.stack.items + length w.stack.room
 
 -- what working the stack off does
 pub record Worked (f : Func) (w after : Work) : Type 0 where

@@ -1,5 +1,5 @@
 -- Use states: how often each value is used.
-use Rattle.std.specs.Prelude.{◌≡◌, ℕ, ◌+◌, ◌<◌, ◌≤◌, Bool, false, List, [], length, Some, None, Ok, Err, count_by, Option, Result as Outcome, ◌==◌, slice_index_or}
+use Rattle.std.specs.Prelude.{◌≡◌, ℕ, ◌<◌, ◌≤◌, Bool, false, List, [], length, Some, None, Ok, Err, count_by, Option, Result as Outcome, ◌==◌, slice_index_or}
 use Rattle.analysis.specs.declared.states.UseStates.{UseStates}
 use Rattle.analysis.specs.declared.states.ValueUseState.{ValueUseState}
 use Rattle.analysis.specs.declared.states.ValueUseState.TheVariants.{Unused, Once, Multiple}
@@ -13,12 +13,18 @@ use Rattle.function.specs.declared.rows.ValueDef.TheVariants.{Param, Result}
 use Rattle.reader.specs.Data.{Func}
 use Rattle.std.specs.List.{flat_map}
 use Rattle.std.specs.Option.{option_map}
-use Rattle.storage.specs.Held.{Held}
+use Rattle.storage.specs.Held.{Held, capacity}
 
 abbrev pub use_state_number : ValueUseState → ℕ
 use_state_number Unused = 0
 use_state_number Once = 1
 use_state_number Multiple = 2
+
+-- one use more
+abbrev pub raised : ValueUseState → ValueUseState
+raised Unused = Once
+raised Once = Multiple
+raised Multiple = Multiple
 
 -- the states in a table
 abbrev pub states_of : UseStates → List ValueUseState
@@ -76,14 +82,17 @@ StateLaw f = (v : ℕ) (s t : ValueUseState) → StateOf f v s → StateOf f v t
 pub record UseStatesFound (f : Func) (before after : List ValueUseState) : Type 0 where
   pub each : (v : ℕ) → v < length (value_rows f) → StateOf f v (slice_index_or after v Unused)
   pub beyond : (v : ℕ) → length (value_rows f) ≤ v → slice_index_or after v Unused ≡ slice_index_or before v Unused
-  pub len : length after ≡ length before
 
 -- the table and the stack have a place for each value
 abbrev pub Enough : Func → List ValueUseState → Held Value → Type 0
-Enough f states stack = (length (value_rows f) ≤ length states) × (length (value_rows f) ≤ length stack.items + length stack.room)
+Enough f states stack = (length (value_rows f) ≤ length states) × (length (value_rows f) ≤ capacity stack)
 
--- counting is refused exactly if one of them is too short (10 at 0), and then changes nothing; afterwards the stack is empty
--- and has all its room, and what stands there is left open
+-- the table and the stack are as long as before
+abbrev pub SameSize : List ValueUseState → Held Value → List ValueUseState → Held Value → Type 0
+SameSize states stack states' stack' = (length states' ≡ length states) × (capacity stack' ≡ capacity stack)
+
+-- counting is refused exactly if one of them is too short (10 at 0); afterwards the stack is empty, and what stands in its
+-- free places is left open
 abbrev pub Computed : Func → List ValueUseState → Held Value → Outcome (Unit {0}) Refusal → List ValueUseState → Held Value → Type 0
 Computed f states stack (Ok _) states' stack' = Enough f states stack × UseStatesFound f states states' × (stack'.items ≡ [])
-Computed f states stack (Err e) states' stack' = (Enough f states stack → ⊥) × (refusal_number e ≡ 10) × (refusal_place e ≡ 0) × (states' ≡ states) × (stack' ≡ stack)
+Computed f states stack (Err e) states' stack' = (Enough f states stack → ⊥) × (refusal_number e ≡ 10) × (refusal_place e ≡ 0)

@@ -1,7 +1,7 @@
 // A use state, and the table of them.
 ghost use Rattle.std.specs.Prelude.{◌≡◌, length, slice_index_or, slice_set};
-ghost use Rattle.analysis.specs.Marks.{raised, turns, cleared};
-ghost use Rattle.analysis.specs.Uses.{use_state_number, states_of};
+ghost use Rattle.analysis.specs.Marks.{turns, cleared};
+ghost use Rattle.analysis.specs.Uses.{raised, use_state_number, states_of};
 ghost use Rattle.analysis.specs.declared.states.ValueUseState.TheVariants.{Unused, Multiple};
 
 use crate::states::{UseStates, ValueUseState};

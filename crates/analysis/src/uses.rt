@@ -1,7 +1,7 @@
 // How often each value of a function is used.
-ghost use Rattle.std.specs.Prelude.{◌≡◌, ◌≤◌, Some};
+ghost use Rattle.std.specs.Prelude.{◌≡◌, ◌≤◌, OnErr, Some};
 ghost use Rattle.analysis.specs.Marks.{marked, marked_all, left, work_of, counts, inst_of_def, uses_behind, Worked};
-ghost use Rattle.analysis.specs.Uses.{counted_by, counted_on, first_result_of, uses, states_of, StateLaw, Computed};
+ghost use Rattle.analysis.specs.Uses.{counted_by, counted_on, first_result_of, uses, states_of, SameSize, StateLaw, Computed};
 ghost use Rattle.function.specs.Answers.{Shows, def_of_value, inst_of, list_in};
 ghost use Rattle.function.specs.Numbering.{uses_of};
 ghost use Rattle.reader.specs.Data.{Func};
@@ -54,6 +54,7 @@ fn mark_use(
 )
     ensures marks { (f : Func) → Shows func.entry f → work_of states.new multiple_stack.new ≡ marked (work_of states.old multiple_stack.old) (counted_on f val.0) }
     ensures falls { left (work_of states.new multiple_stack.new) ≤ left (work_of states.old multiple_stack.old) }
+    ensures size { SameSize (states_of states.old) (held_of multiple_stack.old) (states_of states.new) (held_of multiple_stack.new) }
 {
     match map_to_first_result(func, val) {
         Some(first) => {
@@ -74,6 +75,7 @@ fn mark_inst(
 )
     ensures marks { (f : Func) → Shows func.entry f → work_of states.new multiple_stack.new ≡ marked_all (work_of states.old multiple_stack.old) (counts f (list_in (inst_of f inst.0) uses_of)) }
     ensures falls { left (work_of states.new multiple_stack.new) ≤ left (work_of states.old multiple_stack.old) }
+    ensures size { SameSize (states_of states.old) (held_of multiple_stack.old) (states_of states.new) (held_of multiple_stack.new) }
 {
     let args = func.inst_uses(inst);
     for val in args {
@@ -83,7 +85,8 @@ fn mark_inst(
 
 // Counts every use of every block.
 fn mark_all(func: Function, states: &mut UseStates, multiple_stack: &mut PushList<Value>)
-    ensures { (f : Func) → Shows func.entry f → work_of states.new multiple_stack.new ≡ marked_all (work_of states.old multiple_stack.old) (counts f (uses f)) }
+    ensures marks { (f : Func) → Shows func.entry f → work_of states.new multiple_stack.new ≡ marked_all (work_of states.old multiple_stack.old) (counts f (uses f)) }
+    ensures size { SameSize (states_of states.old) (held_of multiple_stack.old) (states_of states.new) (held_of multiple_stack.new) }
 {
     let insts = func.num_insts();
     for i in 0..insts {
@@ -119,6 +122,7 @@ fn mark_def(
 )
     ensures marks { (f : Func) → Shows func.entry f → work_of states.new multiple_stack.new ≡ marked_all (work_of states.old multiple_stack.old) (counts f (uses_behind f value.0)) }
     ensures falls { left (work_of states.new multiple_stack.new) ≤ left (work_of states.old multiple_stack.old) }
+    ensures size { SameSize (states_of states.old) (held_of multiple_stack.old) (states_of states.new) (held_of multiple_stack.new) }
 {
     match defining_inst(func, value) {
         Some(inst) => mark_inst(func, states, multiple_stack, inst),
@@ -128,7 +132,8 @@ fn mark_def(
 
 // Counts the uses of an instruction once more for each value that became Multiple.
 fn propagate(func: Function, states: &mut UseStates, multiple_stack: &mut PushList<Value>)
-    ensures { (f : Func) → Shows func.entry f → Worked f (work_of states.old multiple_stack.old) (work_of states.new multiple_stack.new) }
+    ensures works { (f : Func) → Shows func.entry f → Worked f (work_of states.old multiple_stack.old) (work_of states.new multiple_stack.new) }
+    ensures size { SameSize (states_of states.old) (held_of multiple_stack.old) (states_of states.new) (held_of multiple_stack.new) }
 {
     while let Some(value) = multiple_stack.pop() {
         mark_def(func, states, multiple_stack, value);
@@ -143,6 +148,8 @@ pub fn compute_use_states(
     multiple_stack: &mut PushList<Value>,
 ) -> Result<(), Refusal>
     ensures states { (f : Func) → Shows func.entry f → Computed f (states_of states.old) (held_of multiple_stack.old) result (states_of states.new) (held_of multiple_stack.new) }
+    ensures size { SameSize (states_of states.old) (held_of multiple_stack.old) (states_of states.new) (held_of multiple_stack.new) }
+    ensures refused { OnErr result ((states_of states.new ≡ states_of states.old) × (held_of multiple_stack.new ≡ held_of multiple_stack.old)) }
     ensures law { (f : Func) → StateLaw f }
 {
     let values = func.num_values();

@@ -11,6 +11,10 @@ pub record Held (E : Type 0) : Type 0 where
 abbrev pub held_of : {E : Type 0} → PushList E → Held E
 held_of l = record { items = take l.len l.items.now; room = drop l.len l.items.now }
 
+-- how many elements there is room for in all
+abbrev pub capacity : {E : Type 0} → Held E → ℕ
+capacity h = length h.items + length h.room
+
 -- one more element: it takes the first free place; where there is none, nothing changes
 abbrev pub pushed : {E : Type 0} → E → Held E → Held E
 pushed x h = elim h.room [ [] ↦ h | y ∷ ys ↦ record { items = h.items ++ (x ∷ []); room = ys } ]
@@ -27,7 +31,7 @@ Popped (Some x) before after = (before.items ≡ after.items ++ (x ∷ [])) × (
 -- what a push is good for: the room in all stays, what was held stays where it was, and the element is added exactly if there
 -- is a free place
 pub record PushLaws {E : Type 0} (x : E) (h : Held E) : Type 0 where
-  pub room : length (pushed x h).items + length (pushed x h).room ≡ length h.items + length h.room
+  pub room : capacity (pushed x h) ≡ capacity h
   pub kept : (k : ℕ) (d : E) → k < length h.items → slice_index_or (pushed x h).items k d ≡ slice_index_or h.items k d
   pub added : 0 < length h.room → (pushed x h).items ≡ h.items ++ (x ∷ [])
   pub full : length h.room ≡ 0 → pushed x h ≡ h

@@ -1,6 +1,6 @@
 // A growing list over a lent slice.
-ghost use Rattle.std.specs.Prelude.{◌≡◌, ◌+◌, [], ◌++◌, length, ◌==◌};
-ghost use Rattle.storage.specs.Held.{held_of, pushed, push_answer, PushLaws, Popped, Turned};
+ghost use Rattle.std.specs.Prelude.{◌≡◌, [], ◌++◌, length, ◌==◌};
+ghost use Rattle.storage.specs.Held.{capacity, held_of, pushed, push_answer, PushLaws, Popped, Turned};
 ghost use Rattle.std.specs.List.{slice_get};
 
 use crate::lists::PushList;
@@ -30,7 +30,7 @@ impl<'a, E> PushList<'a, E> {
 
     // How many elements there is room for in all.
     pub fn capacity(&self) -> usize
-        ensures { result ≡ length (held_of self.now).items + length (held_of self.now).room }
+        ensures { result ≡ capacity (held_of self.now) }
     {
         self.items.len()
     }
