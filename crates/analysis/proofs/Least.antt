@@ -6,7 +6,6 @@ use Rattle.analysis.specs.Marks.{turns, Work, stacked, marked, marked_all, is_op
 use Rattle.analysis.specs.Uses.{first_result_of, counted_by, counted_on, is_value, counts_on, uses, use_count, used_by, Many, twice, again, StateOf, StateLaw, UseStatesFound, Enough, raised}
 use Rattle.analysis.specs.declared.states.ValueUseState.{ValueUseState}
 use Rattle.analysis.specs.declared.states.ValueUseState.TheVariants.{Unused, Once, Multiple}
-use Rattle.clif.specs.declared.entities.Inst.{Inst}
 use Rattle.clif.specs.declared.entities.Value.{Value}
 use Rattle.function.proofs.Places.Lists.{nth_within}
 use Rattle.function.specs.Answers.{all_insts, inst_of, list_in, def_of_value}
@@ -44,12 +43,6 @@ counted_there f u w (Some d) h e = nth_within (λ r. r.def) (value_rows f) u d h
 pub counted_below : (f : Func) (u w : ℕ) → counted_on f u ≡ Some w → u < length (value_rows f)
 unfolding counted_on
 counted_below f u w e = counted_there f u w (def_of_value f u) refl e
-
--- for a value that is counted on itself, its instruction has it as first result
-behind_first : (f : Func) (v : ℕ) (d : Option ValueDef) (i : Inst) → counted_by f v d ≡ Some v → inst_of_def d ≡ Some i → first_result_of f i.0 ≡ Some v
-behind_first f v None i e h = absurd (some_none e)
-behind_first f v (Some (Param b k)) i e h = absurd (some_none h)
-behind_first f v (Some (Result j k)) i e h = let same : j ≡ i = cc in subst (λ (x : Inst). first_result_of f x.0 ≡ Some v) same e
 
 -- One mark
 

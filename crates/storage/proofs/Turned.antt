@@ -1,7 +1,6 @@
 -- A list that is turned round from both ends, as far as i.
-use Rattle.std.proofs.Common.{◌≡◌, ℕ, ◌+◌, ◌-◌, ◌/◌, ◌<◌, ◌≤◌, List, length, get_or, refl, ◌∙◌, ⊎_elim, arith}
-use Rattle.std.proofs.lemmas.Bool.{cases_lt, cases_eq}
-use Rattle.storage.specs.Reversal.{Reversed}
+use Rattle.std.proofs.Common.{◌≡◌, ℕ, ◌+◌, ◌-◌, ◌/◌, ◌<◌, ◌≤◌, List, length, get_or, ◌∙◌, ⊎_elim, arith}
+use Rattle.std.proofs.lemmas.Bool.{cases_eq}
 
 pub record HalfTurned {E : Type 0} (i : ℕ) (before after : List E) : Type 0 where
   pub len : length after ≡ length before
@@ -10,9 +9,6 @@ pub record HalfTurned {E : Type 0} (i : ℕ) (before after : List E) : Type 0 wh
   pub middle : (k : ℕ) (d : E) → i ≤ k → k < length before - i → get_or after k d ≡ get_or before k d
 
 module _ {E : Type 0} (before : List E) where
-  pub turned_none : HalfTurned 0 before before
-  turned_none = record { len = refl; front = λ k d h. absurd (omega arith); back = λ k d h. absurd (omega arith); middle = λ k d h l. refl }
-
   -- two more elements change places
   module _ (now next : List E) (i : ℕ) (t : HalfTurned i before now) (h : i < length before / 2)
       (len : length next ≡ length now)
@@ -38,16 +34,3 @@ module _ {E : Type 0} (before : List E) where
       back = back_more;
       middle = λ k d l m. c k d (λ e. omega arith) (λ e. omega arith) ∙ t.middle k d (omega arith) (omega arith);
     }
-
-  pub turned_all : (after : List E) (i : ℕ) → length before / 2 ≤ i → HalfTurned i before after → Reversed before after
-  turned_all after i h t = record {
-    len = t.len;
-    places = λ k d l. ⊎_elim
-        (λ (m : k < i). t.front k d m)
-        (λ (m : i ≤ k). ⊎_elim
-        (λ (q : length before - 1 - k < i). let e : length before - 1 - (length before - 1 - k) ≡ k = omega arith in
-        let f = t.back (length before - 1 - k) d q in (rw e at f))
-        (λ (q : i ≤ length before - 1 - k). let e : length before - 1 - k ≡ k = omega arith in rw e (t.middle k d m (omega arith)))
-        (cases_lt (length before - 1 - k) i))
-        (cases_lt k i);
-  }
