@@ -1,5 +1,5 @@
 -- Counting uses ends in the least solution.
-use Rattle.std.proofs.Common.{◌≡◌, ℕ, zero, suc, ◌+◌, ◌-◌, ◌<◌, ◌≤◌, min, Bool, true, false, cond, eqb, ◌⊎◌, List, [], ◌∷◌, ◌++◌, length, get_or, take, drop, set, replicate, Some, None, count_by, Option, sym, refl, ap, ◌∙◌, subst, inl, inr, ⊎_elim, arith}
+use Rattle.std.proofs.Common.{◌≡◌, ℕ, zero, suc, ◌+◌, ◌-◌, ◌<◌, ◌≤◌, min, Bool, true, false, cond, eqb, ◌⊎◌, List, [], ◌∷◌, ◌++◌, length, get_or, take, drop, set, replicate, Some, None, count_by, Option, sym, refl, ap, ◌∙◌, subst, inl, inr, ⊎_elim, arith, slice_get}
 use Rattle.analysis.proofs.Defined.{first_def}
 use Rattle.analysis.proofs.Marking.{open_mark_in}
 use Rattle.analysis.specs.Marks.{turns, Work, stacked, marked, marked_all, is_open, counts, Waits, ManyNow, AllMany, Sure, Closed, inst_of_def, uses_behind, Sound, Going, Went, Beyond, Worked, cleared}
@@ -7,9 +7,9 @@ use Rattle.analysis.specs.Uses.{first_result_of, counted_by, counted_on, is_valu
 use Rattle.analysis.specs.declared.states.ValueUseState.{ValueUseState}
 use Rattle.analysis.specs.declared.states.ValueUseState.TheVariants.{Unused, Once, Multiple}
 use Rattle.clif.specs.declared.entities.Value.{Value}
-use Rattle.function.proofs.Places.Lists.{nth_within}
+use Rattle.function.proofs.Places.Lists.{get_within}
 use Rattle.function.specs.Answers.{all_insts, inst_of, list_in, def_of_value}
-use Rattle.function.specs.Numbering.{uses_of, nth, value_rows, inst_number}
+use Rattle.function.specs.Numbering.{uses_of, value_rows, inst_number}
 use Rattle.function.specs.declared.rows.ValueDef.{ValueDef}
 use Rattle.function.specs.declared.rows.ValueDef.TheVariants.{Param, Result}
 use Rattle.reader.specs.Data.{Func, Instruction}
@@ -38,7 +38,7 @@ counted_self f u w e = counted_twice f u w (def_of_value f u) refl e
 
 counted_there : (f : Func) (u w : ℕ) (d : Option ValueDef) → def_of_value f u ≡ d → counted_by f u d ≡ Some w → u < length (value_rows f)
 counted_there f u w None h e = absurd (some_none e)
-counted_there f u w (Some d) h e = nth_within (λ r. r.def) (value_rows f) u d h
+counted_there f u w (Some d) h e = get_within (λ r. r.def) (value_rows f) u d h
 
 pub counted_below : (f : Func) (u w : ℕ) → counted_on f u ≡ Some w → u < length (value_rows f)
 unfolding counted_on
@@ -249,7 +249,7 @@ going_all f more w (o ∷ os) g fair =
 
 -- Taking a value up
 
-part_count : (p : Value → Bool) (xs : List Instruction) (i : ℕ) → count_by p (list_in (nth xs i) uses_of) ≤ count_by p (flat_map uses_of xs)
+part_count : (p : Value → Bool) (xs : List Instruction) (i : ℕ) → count_by p (list_in (slice_get xs i) uses_of) ≤ count_by p (flat_map uses_of xs)
 part_count p [] i = omega arith
 part_count p (x ∷ xs) zero = omega (arith, sum_by-append (λ u. cond (p u) 1 0) (uses_of x) (flat_map uses_of xs))
 part_count p (x ∷ xs) (suc i) = omega (arith, sum_by-append (λ u. cond (p u) 1 0) (uses_of x) (flat_map uses_of xs), part_count p xs i)
@@ -458,7 +458,7 @@ module _ (f : Func) (w : Work) (g : Went f w) where
   complete v l (twice h) = two_many v (get_or w.states v Multiple) (g.going.each v l) h
   complete v l (again {w = u} i used first m) =
       let d = first_def f i u first in
-      let below = nth_within (λ r. r.def) (value_rows f) u (Result (inst_number i) 0) d in
+      let below = get_within (λ r. r.def) (value_rows f) u (Result (inst_number i) 0) d in
       let closed : Closed f w.states u = ⊎_elim (λ h. absurd (nobody u h)) (λ h. h) (g.going.closed u below (complete u below m)) in
       one_many f w.states v (list_in (inst_of f i) uses_of) (subst (λ us. AllMany w.states (counts f us)) (behind_is f i u d) closed) used
 

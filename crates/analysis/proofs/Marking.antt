@@ -1,11 +1,11 @@
 -- Uses counted one after another.
-use Rattle.std.proofs.Common.{◌≡◌, ℕ, zero, suc, ◌+◌, ◌<◌, ◌≤◌, Bool, true, false, cond, List, [], ◌∷◌, ◌++◌, length, get_or, take, set, Some, None, count_by, Option, sym, refl, ap, ◌∙◌, ⊎_elim, arith}
+use Rattle.std.proofs.Common.{◌≡◌, ℕ, zero, suc, ◌+◌, ◌<◌, ◌≤◌, Bool, true, false, cond, List, [], ◌∷◌, ◌++◌, length, get_or, take, set, Some, None, count_by, Option, sym, refl, ap, ◌∙◌, ⊎_elim, arith, slice_get}
 use lib.Seq.{take-set-lt}
-use Rattle.analysis.specs.Marks.{turns, Work, stacked, marked, marked_all, is_open, left, counts}
-use Rattle.analysis.specs.Uses.{counted_on, raised, SameSize}
+use Rattle.analysis.specs.Marks.{turns, Work, stacked, marked, marked_all, is_open, left, counts, Kept}
+use Rattle.analysis.specs.Uses.{counted_on, raised}
 use Rattle.reader.specs.Data.{Func, Instruction}
 use Rattle.function.specs.Answers.{all_insts, inst_of, list_in}
-use Rattle.std.specs.List.{flat_map}
+use Rattle.std.specs.List.{flat_map, slice_get}
 use Rattle.analysis.specs.declared.states.ValueUseState.{ValueUseState}
 use Rattle.analysis.specs.declared.states.ValueUseState.TheVariants.{Unused, Once, Multiple}
 use Rattle.clif.specs.declared.entities.Value.{Value}
@@ -13,9 +13,8 @@ use Rattle.reader.specs.Reading.{value_at}
 use Rattle.std.proofs.lemmas.List.{get_or_past, set_past, length-append, map-append, take_more, append-nil, append_assoc, get_or-take, length-set}
 use Rattle.std.proofs.lemmas.List.Sums.{sum_by-set}
 use Rattle.std.proofs.lemmas.Bool.{cases_lt}
-use Rattle.function.specs.Numbering.{nth, uses_of}
+use Rattle.function.specs.Numbering.{uses_of}
 use Rattle.std.specs.Option.{option_map}
-use Rattle.storage.proofs.Places.{push_laws}
 use Rattle.storage.specs.Held.{Held, capacity, pushed}
 
 -- one mark, and then others
@@ -28,20 +27,9 @@ marked_both w [] ps = refl
 marked_both w (o ∷ os) ps = marked_both (marked w o) os ps
 
 -- the first of a list, where there is one
-module _ (xs ys : List Value) (e : xs ≡ ys) where
-  first_none_in : (zs : List Value) → length zs < 1 → None ≡ option_map (λ v. v.0) (nth zs 0)
-  first_none_in [] h = refl
-  first_none_in (z ∷ zs) h = absurd (omega arith)
-
-  first_some_in : (zs : List Value) (d : Value) → 1 ≤ length zs → Some (get_or zs 0 d).0 ≡ option_map (λ v. v.0) (nth zs 0)
-  first_some_in [] d h = absurd (omega arith)
-  first_some_in (z ∷ zs) d h = refl
-
-  pub first_none : length xs < 1 → None ≡ option_map (λ v. v.0) (nth ys 0)
-  first_none h = rw (← e) (first_none_in xs h)
-
-  pub first_some : (d : Value) → 1 ≤ length xs → Some (get_or xs 0 d).0 ≡ option_map (λ v. v.0) (nth ys 0)
-  first_some d h = rw (← e) (first_some_in xs d h)
+pub first_of_list : (xs ys : List Value) → xs ≡ ys → option_map (λ v. v.0) (slice_get xs 0) ≡ option_map (λ v. v.0) (slice_get ys 0)
+first_of_list [] ys e = rw (← e)
+first_of_list (x ∷ xs) ys e = rw (← e)
 
 -- a mark, by what became of the states and the stack
 module _ (w : Work) (v : ℕ) (xs : List ValueUseState) (e : xs ≡ set w.states v (raised (get_or w.states v Multiple))) where
@@ -75,7 +63,7 @@ open_mark xs v = ⊎_elim
     (λ (h : length xs ≤ v). rw (get_or_past xs v Multiple h, set_past xs v Multiple h) (omega arith))
     (cases_lt v (length xs))
 
-pub left_mark : (w : Work) (o : Option ℕ) → left (marked w o) ≤ left w
+left_mark : (w : Work) (o : Option ℕ) → left (marked w o) ≤ left w
 unfolding marked left
 left_mark w None = omega arith
 left_mark w (Some v) =
@@ -83,23 +71,26 @@ left_mark w (Some v) =
     let b = stacked_length (turns (get_or w.states v Multiple)) v w.stack in omega arith
 
 -- a mark keeps the sizes of table and stack
-abbrev pub Same : Work → Work → Type 0
-Same w after = SameSize w.states w.stack after.states after.stack
-
 stacked_capacity : (b : Bool) (v : ℕ) (h : Held Value) → capacity (stacked b v h) ≡ capacity h
-stacked_capacity true v h = (push_laws (value_at v) h).room
+stacked_capacity true v h = elim h.room as (λ r. capacity (pushed (value_at v) (record { items = h.items; room = r })) ≡ capacity (record { items = h.items; room = r })) [
+  | [] ↦ refl
+  | y ∷ ys ↦ omega (arith, length-append h.items (value_at v ∷ []))
+]
 stacked_capacity false v h = refl
 
-pub same_mark : (w : Work) (o : Option ℕ) → Same w (marked w o)
+pub kept_mark : (w : Work) (o : Option ℕ) → Kept w (marked w o)
 unfolding marked
-same_mark w None = (refl, refl)
-same_mark w (Some v) = (
-  length-set w.states v (raised (get_or w.states v Multiple)),
-  stacked_capacity (turns (get_or w.states v Multiple)) v w.stack,
-)
+kept_mark w None = record { falls = left_mark w None; size = (refl, refl) }
+kept_mark w (Some v) = record {
+  falls = left_mark w (Some v);
+  size = (length-set w.states v (raised (get_or w.states v Multiple)), stacked_capacity (turns (get_or w.states v Multiple)) v w.stack);
+}
 
-pub same_more : (start w next : Work) → Same start w → Same w next → Same start next
-same_more start w next a b = (b.0 ∙ a.0, b.1 ∙ a.1)
+pub kept_same : (w : Work) → Kept w w
+kept_same w = record { falls = omega arith; size = (refl, refl) }
+
+pub kept_more : (start w next : Work) → Kept start w → Kept w next → Kept start next
+kept_more start w next a b = record { falls = omega (arith, a.falls, b.falls); size = (b.size.0 ∙ a.size.0, b.size.1 ∙ a.size.1) }
 
 -- one use more of an instruction; one instruction more
 pub use_more : (f : Func) (start w next : Work) (us : List Value) (i : ℕ) (d : Value) → i < length us
@@ -112,12 +103,12 @@ use_more f start w next us i d h e n =
     let z = ap (λ o. marked o (counted_on f (get_or us i d).0)) e in
     n ∙ z ∙ sym m ∙ sym (ap (marked_all start) (t ∙ a))
 
-joined_more : (xs : List Instruction) (i : ℕ) → i < length xs → flat_map uses_of (take (i + 1) xs) ≡ flat_map uses_of (take i xs) ++ list_in (nth xs i) uses_of
+joined_more : (xs : List Instruction) (i : ℕ) → i < length xs → flat_map uses_of (take (i + 1) xs) ≡ flat_map uses_of (take i xs) ++ list_in (slice_get xs i) uses_of
 joined_more [] i h = absurd (omega arith)
 joined_more (x ∷ xs) zero h = append-nil (uses_of x)
 joined_more (x ∷ xs) (suc i) h =
     let e : suc i + 1 ≡ suc (i + 1) = omega arith in
-    rw e (ap (λ l. uses_of x ++ l) (joined_more xs i (omega arith)) ∙ sym (append_assoc (uses_of x) (flat_map uses_of (take i xs)) (list_in (nth xs i) uses_of)))
+    rw e (ap (λ l. uses_of x ++ l) (joined_more xs i (omega arith)) ∙ sym (append_assoc (uses_of x) (flat_map uses_of (take i xs)) (list_in (slice_get xs i) uses_of)))
 
 pub inst_more : (f : Func) (start w next : Work) (i : ℕ) → i < length (all_insts f)
     → w ≡ marked_all start (counts f (flat_map uses_of (take i (all_insts f)))) → next ≡ marked_all w (counts f (list_in (inst_of f i) uses_of))
@@ -136,9 +127,11 @@ pub left_popped : (w : Work) (next : Held Value) (x : Value) → w.stack.items �
 unfolding left
 left_popped w next x e = omega (arith, ap (λ (l : List Value). length l) e, length-append next.items (x ∷ []))
 
-pub popped_capacity : (x : Value) (before after : Held Value) → before.items ≡ after.items ++ (x ∷ []) → after.room ≡ x ∷ before.room → capacity after ≡ capacity before
-popped_capacity x before after e r =
-    omega (arith, ap (λ (l : List Value). length l) e, ap (λ (l : List Value). length l) r, length-append after.items (x ∷ []))
+pub kept_popped : (w : Work) (next : Held Value) (x : Value) → w.stack.items ≡ next.items ++ (x ∷ []) → next.room ≡ x ∷ w.stack.room → Kept w (record { states = w.states; stack = next })
+kept_popped w next x e r = record {
+  falls = omega (arith, left_popped w next x e);
+  size = (refl, omega (arith, ap (λ (l : List Value). length l) e, ap (λ (l : List Value). length l) r, length-append next.items (x ∷ [])));
+}
 
 -- the same within the first n states
 pub open_mark_in : (n : ℕ) (xs : List ValueUseState) (v : ℕ) → v < n → count_by is_open (take n (set xs v (raised (get_or xs v Multiple)))) + cond (turns (get_or xs v Multiple)) 1 0 ≡ count_by is_open (take n xs)

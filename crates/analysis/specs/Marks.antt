@@ -1,7 +1,7 @@
 -- What the private functions of the use states do: one use counted after another.
 use Rattle.std.specs.Prelude.{◌≡◌, ℕ, ◌+◌, ◌<◌, ◌≤◌, min, Bool, true, false, cond, ◌⊎◌, List, [], ◌∷◌, ◌++◌, map, length, take, drop, replicate, Some, None, count_by, Option, slice_index_or, slice_set}
-use Rattle.analysis.specs.Uses.{counted_on, raised, states_of, use_count, Many}
-use Rattle.analysis.specs.declared.states.UseStates.{UseStates}
+use Rattle.analysis.specs.Uses.{counted_on, raised, use_count, Many, SameSize}
+use Rattle.analysis.specs.declared.uses.Counting.{Counting}
 use Rattle.analysis.specs.declared.states.ValueUseState.{ValueUseState}
 use Rattle.analysis.specs.declared.states.ValueUseState.TheVariants.{Unused, Once, Multiple}
 use Rattle.clif.specs.declared.entities.Inst.{Inst}
@@ -12,8 +12,7 @@ use Rattle.function.specs.declared.rows.ValueDef.{ValueDef}
 use Rattle.function.specs.declared.rows.ValueDef.TheVariants.{Param, Result}
 use Rattle.reader.specs.Data.{Func}
 use Rattle.reader.specs.Reading.{value_at}
-use Rattle.storage.specs.Held.{Held, held_of, pushed}
-use Rattle.storage.specs.declared.lists.PushList.{PushList}
+use Rattle.storage.specs.Held.{Held, pushed}
 
 -- whether one use more makes the state Multiple for the first time
 abbrev pub turns : ValueUseState → Bool
@@ -30,8 +29,12 @@ pub record Work : Type 0 where
   pub states : List ValueUseState
   pub stack : Held Value
 
-abbrev pub work_of : UseStates → PushList Value → Work
-work_of t l = record { states = states_of t; stack = held_of l }
+abbrev pub work_of : Counting → Work
+work_of c = record { states = c.states.now; stack = c.multiple_stack.now }
+
+-- written through the same references
+abbrev pub SamePlaces : Counting → Counting → Type 0
+SamePlaces c after = (after.states.ghost_name ≡ c.states.ghost_name) × (after.multiple_stack.ghost_name ≡ c.multiple_stack.ghost_name)
 
 -- the values on which uses count
 abbrev pub counts : Func → List Value → List (Option ℕ)
@@ -61,6 +64,11 @@ is_open Multiple = false
 
 unfoldable pub left : Work → ℕ
 left w = count_by is_open w.states + length w.stack.items
+
+-- whatever is counted, there is no more to do than before, and table and stack keep their sizes
+pub record Kept (w after : Work) : Type 0 where
+  pub falls : left after ≤ left w
+  pub size : SameSize w.states w.stack after.states after.stack
 
 -- a value waits in a list
 abbrev pub Waits : ℕ → List Value → Type 0

@@ -1,13 +1,12 @@
 -- Use states: how often each value is used.
-use Rattle.std.specs.Prelude.{◌≡◌, ℕ, ◌<◌, ◌≤◌, Bool, false, List, [], length, Some, None, Ok, Err, count_by, Option, Result as Outcome, ◌==◌, slice_index_or}
-use Rattle.analysis.specs.declared.states.UseStates.{UseStates}
+use Rattle.std.specs.Prelude.{◌≡◌, ℕ, ◌<◌, ◌≤◌, Bool, false, List, [], length, Some, None, Ok, Err, count_by, Option, Result as Outcome, ◌==◌, slice_index_or, slice_get}
 use Rattle.analysis.specs.declared.states.ValueUseState.{ValueUseState}
 use Rattle.analysis.specs.declared.states.ValueUseState.TheVariants.{Unused, Once, Multiple}
 use Rattle.clif.specs.Refusals.{refusal_number, refusal_place}
 use Rattle.clif.specs.declared.entities.Value.{Value}
 use Rattle.clif.specs.declared.refusals.Refusal.{Refusal}
 use Rattle.function.specs.Answers.{all_insts, inst_of, results_of, def_of_value, list_in}
-use Rattle.function.specs.Numbering.{uses_of, nth, value_rows}
+use Rattle.function.specs.Numbering.{uses_of, value_rows}
 use Rattle.function.specs.declared.rows.ValueDef.{ValueDef}
 use Rattle.function.specs.declared.rows.ValueDef.TheVariants.{Param, Result}
 use Rattle.reader.specs.Data.{Func}
@@ -26,13 +25,9 @@ raised Unused = Once
 raised Once = Multiple
 raised Multiple = Multiple
 
--- the states in a table
-abbrev pub states_of : UseStates → List ValueUseState
-states_of t = t.states.now
-
 -- the first result of an instruction, if it has one
 abbrev pub first_result_of : Func → ℕ → Option ℕ
-first_result_of f i = option_map (λ v. v.0) (nth (results_of f i) 0)
+first_result_of f i = option_map (λ v. v.0) (slice_get (results_of f i) 0)
 
 -- the value on which a use of v counts: a parameter itself; for a result the first result of its instruction
 abbrev pub counted_by : Func → ℕ → Option ValueDef → Option ℕ

@@ -2,5 +2,4 @@
 #![tactic(auto)]
 
 pub mod states;
-pub mod table;
 pub mod uses;

@@ -1,82 +1,41 @@
 -- What passing every test says.
-use Rattle.std.proofs.Common.{◌≡◌, ℕ, zero, suc, ◌+◌, ◌<◌, ◌≤◌, Bool, true, false, cond, not, ◌&&◌, ◌||◌, eqb, ltb, List, [], ◌∷◌, ◌++◌, length, is_some, Some, None, Option, sym, refl, ap, ◌∙◌, arith}
-use Rattle.checks.specs.Checks.{row_test, numbers_test, entry_test, uses_test, inst_tests, entry_tests, uses_tests, all_tests, same_flag, is_entry, is_before, entry_fits, destinations_of_block, row_fits, numbers_fit, shape_fits, shape_of, value_exists, uses_fit}
+use Rattle.std.proofs.Common.{◌≡◌, ℕ, zero, suc, ◌+◌, ◌<◌, ◌≤◌, Bool, true, false, not, ◌&&◌, ◌||◌, eqb, ltb, List, [], ◌∷◌, ◌++◌, length, is_some, Some, None, Option, sym, refl, ap, ◌∙◌, arith, slice_get}
+use Rattle.checks.specs.Checks.{row_test, numbers_test, entry_test, uses_test, inst_tests, entry_tests, uses_tests, tests_of_inst, tests_of_entry, tests_of_uses, all_tests, same_flag, is_entry, is_before, entry_fits, destinations_of_block, row_fits, numbers_fit, shape_fits, shape_of, value_exists, uses_fit}
+use Rattle.checks.proofs.Runs.{front_passes, back_passes, first_passes, each_passes}
 use Rattle.checks.specs.Facts.{Facts}
-use Rattle.checks.specs.Tests.{Test, all_pass, first_fault}
+use Rattle.checks.specs.Tests.{first_fault}
+use Rattle.std.specs.List.{list_all}
 use Rattle.clif.specs.Rows.{row_of, within_span}
 use Rattle.clif.specs.declared.entities.Block.{Block}
 use Rattle.clif.specs.declared.entities.Entry.{Entry}
 use Rattle.clif.specs.declared.entities.Entry.TheVariants.{Block as to_block, Edge as to_edge}
 use Rattle.function.proofs.Places.Insts.{length_rows_in}
-use Rattle.function.proofs.Places.Lists.{nth_within}
+use Rattle.function.proofs.Places.Lists.{get_within}
 use Rattle.function.specs.Answers.{all_insts, inst_of, block_of, last_of, results_of, entry_of_block, entry_of_edge}
-use Rattle.function.specs.Numbering.{nth, uses_of, inst_rows, none_before}
+use Rattle.function.specs.Numbering.{uses_of, inst_rows, none_before}
 use Rattle.reader.specs.Data.{Instruction, Func}
 use Rattle.reader.specs.Reading.{block_at}
 use Rattle.reader.specs.Within.{Within}
 use Rattle.std.proofs.lemmas.Bool.{and_parts, ltb-true, eqb-true, true≢false}
 
--- the tests before and behind, and each of a list made by a step
-front_passes : (ts us : List Test) → first_fault (ts ++ us) ≡ None → first_fault ts ≡ None
-front_passes [] us e = refl
-front_passes (t ∷ ts) us e = go t.passes e (front_passes ts us)
-  where
-    go : (b : Bool) → cond b (first_fault (ts ++ us)) (Some (t.number, t.place)) ≡ None → (first_fault (ts ++ us) ≡ None → first_fault ts ≡ None) → cond b (first_fault ts) (Some (t.number, t.place)) ≡ None
-    go true e ih = ih e
-    go false e ih = absurd (let z : ◌≡◌ {A = ℕ} 0 1 = cc in omega arith)
-
-back_passes : (ts us : List Test) → first_fault (ts ++ us) ≡ None → first_fault us ≡ None
-back_passes [] us e = e
-back_passes (t ∷ ts) us e = go t.passes e (back_passes ts us)
-  where
-    go : (b : Bool) → cond b (first_fault (ts ++ us)) (Some (t.number, t.place)) ≡ None → (first_fault (ts ++ us) ≡ None → first_fault us ≡ None) → first_fault us ≡ None
-    go true e ih = ih e
-    go false e ih = absurd (let z : ◌≡◌ {A = ℕ} 0 1 = cc in omega arith)
-
-first_passes : (t : Test) (ts : List Test) → first_fault (t ∷ ts) ≡ None → (t.passes ≡ true) × (first_fault ts ≡ None)
-first_passes t ts e = go t.passes refl
-  where
-    go : (b : Bool) → t.passes ≡ b → (t.passes ≡ true) × (first_fault ts ≡ None)
-    go true h = (h, sym (ap (λ b. cond b (first_fault ts) (Some (t.number, t.place))) h) ∙ e)
-    go false h = absurd (let z : ◌≡◌ {A = ℕ} 0 1 = cc (sym (ap (λ b. cond b (first_fault ts) (Some (t.number, t.place))) h) ∙ e) in omega arith)
-
 module _ (f : Func) where
   pub insts_each : (i n k : ℕ) → first_fault (inst_tests f i n) ≡ None → k < n → ((row_test f (i + k)).passes ≡ true) × ((numbers_test f (i + k)).passes ≡ true)
-  insts_each i zero k e h = absurd (omega arith)
-  insts_each i (suc n) zero e h =
-      let a = first_passes (row_test f i) (numbers_test f i ∷ inst_tests f (suc i) n) e in
-      let b = first_passes (numbers_test f i) (inst_tests f (suc i) n) a.1 in
-      let z : i ≡ i + 0 = omega arith in
-      (ap (λ j. (row_test f j).passes) (sym z) ∙ a.0, ap (λ j. (numbers_test f j).passes) (sym z) ∙ b.0)
-  insts_each i (suc n) (suc k) e h =
-      let a = first_passes (row_test f i) (numbers_test f i ∷ inst_tests f (suc i) n) e in
-      let b = first_passes (numbers_test f i) (inst_tests f (suc i) n) a.1 in
-      let z : i + suc k ≡ suc i + k = omega arith in
-      let r = insts_each (suc i) n k b.1 (omega arith) in
-      (ap (λ j. (row_test f j).passes) z ∙ r.0, ap (λ j. (numbers_test f j).passes) z ∙ r.1)
+  insts_each i n k e h =
+      let a = first_passes (row_test f (i + k)) (numbers_test f (i + k) ∷ []) (each_passes (tests_of_inst f) i n k e h) in
+      (a.0, (first_passes (numbers_test f (i + k)) [] a.1).0)
 
   entries_each : (i n k : ℕ) → first_fault (entry_tests f i n) ≡ None → k < n → (entry_test f (i + k)).passes ≡ true
-  entries_each i zero k e h = absurd (omega arith)
-  entries_each i (suc n) zero e h =
-      let z : i + 0 ≡ i = omega arith in ap (λ j. (entry_test f j).passes) z ∙ (first_passes (entry_test f i) (entry_tests f (suc i) n) e).0
-  entries_each i (suc n) (suc k) e h =
-      let z : i + suc k ≡ suc i + k = omega arith in
-      ap (λ j. (entry_test f j).passes) z ∙ entries_each (suc i) n k (first_passes (entry_test f i) (entry_tests f (suc i) n) e).1 (omega arith)
+  entries_each i n k e h = (first_passes (entry_test f (i + k)) [] (each_passes (tests_of_entry f) i n k e h)).0
 
   uses_each : (i n k : ℕ) → first_fault (uses_tests f i n) ≡ None → k < n → (uses_test f (i + k)).passes ≡ true
-  uses_each i zero k e h = absurd (omega arith)
-  uses_each i (suc n) zero e h =
-      let z : i + 0 ≡ i = omega arith in ap (λ j. (uses_test f j).passes) z ∙ (first_passes (uses_test f i) (uses_tests f (suc i) n) e).0
-  uses_each i (suc n) (suc k) e h =
-      let z : i + suc k ≡ suc i + k = omega arith in
-      ap (λ j. (uses_test f j).passes) z ∙ uses_each (suc i) n k (first_passes (uses_test f i) (uses_tests f (suc i) n) e).1 (omega arith)
+  uses_each i n k e h = (first_passes (uses_test f (i + k)) [] (each_passes (tests_of_uses f) i n k e h)).0
 
-nth_below : {X : Type 0} (xs : List X) (i : ℕ) (x : X) → nth xs i ≡ Some x → i < length xs
+nth_below : {X : Type 0} (xs : List X) (i : ℕ) (x : X) → slice_get xs i ≡ Some x → i < length xs
 nth_below [] i x e = absurd (let z : ◌≡◌ {A = ℕ} 0 1 = cc in omega arith)
 nth_below (y ∷ ys) zero x e = omega arith
 nth_below (y ∷ ys) (suc i) x e = let h = nth_below ys i x e in omega arith
 
-nth_first : {X : Type 0} (xs : List X) → 1 ≤ length xs → (x : X) × (nth xs 0 ≡ Some x)
+nth_first : {X : Type 0} (xs : List X) → 1 ≤ length xs → (x : X) × (slice_get xs 0 ≡ Some x)
 nth_first [] h = absurd (omega arith)
 nth_first (x ∷ xs) h = (x, refl)
 
@@ -114,8 +73,8 @@ pub facts_hold : (f : Func) → Within f → first_fault (all_tests f) ≡ None 
 facts_hold f w e = record {
   rows = row;
   terminators = λ i x h. terminator i x h;
-  values = λ i x h. (and_parts (all_pass (value_exists f) (uses_of x)) _ (number i x h)).0;
-  destinations = λ i x h. (and_parts (all_pass (value_exists f) (uses_of x)) _ (number i x h)).1;
+  values = λ i x h. (and_parts (list_all (value_exists f) (uses_of x)) _ (number i x h)).0;
+  destinations = λ i x h. (and_parts (list_all (value_exists f) (uses_of x)) _ (number i x h)).1;
   begins = let o = nth_first f.order w.some_entry in o.1 ∙ ap Some (zero_entry f o.0 (entry 0 o.0 o.1));
   blocks_once = λ k b h.
       let a = and_parts (ltb b.0 (length f.blocks)) _ (entry k (to_block b) h) in
@@ -162,13 +121,13 @@ facts_hold f w e = record {
         let g = (and_parts (same_flag r.immediate s.immediate) _ d).1 in
         same_flags r.class.terminator (last_of f i) (and_parts (r.flag || not s.flag) _ g).1
 
-    entry : (k : ℕ) (x : Entry) → nth f.order k ≡ Some x → entry_fits f k x ≡ true
+    entry : (k : ℕ) (x : Entry) → slice_get f.order k ≡ Some x → entry_fits f k x ≡ true
     entry k x h =
         sym (ap (λ o. elim o [ None ↦ true | Some y ↦ entry_fits f k y ]) h)
         ∙ ap (λ j. (entry_test f j).passes) (at_zero k)
         ∙ entries_each f 0 (length f.order) k (front_passes (entry_tests f 0 (length f.order)) (uses_tests f 0 n) rest) (nth_below f.order k x h)
 
-    edge : (k : ℕ) (b : Block) (j : ℕ) → nth f.order k ≡ Some (to_edge b j)
+    edge : (k : ℕ) (b : Block) (j : ℕ) → slice_get f.order k ≡ Some (to_edge b j)
         → (ltb j (length (destinations_of_block f b.0)) ≡ true) × ((is_entry (entry_of_edge f b.0 j) k && is_before (entry_of_block f b.0) k) ≡ true)
     edge k b j h =
         let a = (and_parts (ltb b.0 (length f.blocks)) _ (entry k (to_edge b j) h)).1 in
@@ -176,6 +135,6 @@ facts_hold f w e = record {
 
     use_at : (i : ℕ) (b : Block) → block_of f i ≡ Some b → (uses_test f i).passes ≡ true
     use_at i b h =
-        let l = nth_within (λ r. r.block) (inst_rows f) i b h in
+        let l = get_within (λ r. r.block) (inst_rows f) i b h in
         ap (λ j. (uses_test f j).passes) (at_zero i)
         ∙ uses_each f 0 n i (back_passes (entry_tests f 0 (length f.order)) (uses_tests f 0 n) rest) (omega (arith, length_rows_in 0 none_before f.blocks))

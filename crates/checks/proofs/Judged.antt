@@ -1,36 +1,17 @@
 -- What a file comes to, from what reading it and checking its function say.
-use Rattle.std.proofs.Common.{◌≡◌, ℕ, Bool, true, false, cond, List, [], ◌∷◌, ◌++◌, is_err, Some, None, Ok, Err, Option, Result, sym, refl, ap, ◌∙◌, ap₂, arith}
+use Rattle.std.proofs.Common.{◌≡◌, ℕ, true, false, List, is_err, Some, None, Ok, Err, Option, Result, sym, refl, ap, ◌∙◌, ap₂, arith}
 use Rattle.checks.proofs.FactsHold.{facts_hold}
 use Rattle.checks.specs.Checks.{all_tests}
-use Rattle.checks.specs.Tests.{Test, first_fault, fault_of}
+use Rattle.checks.specs.Tests.{first_fault, fault_of}
 use Rattle.checks.specs.Verdict.{judged, Accepted, Loaded}
 use Rattle.clif.specs.Refusals.{refusal_number, refusal_place}
 use Rattle.clif.specs.declared.refusals.Refusal.{Refusal}
-use Rattle.function.specs.Holding.{Holds, view, zero_store, store_of}
+use Rattle.function.specs.Holding.{Holds, zero_store, store_of}
 use Rattle.function.specs.declared.tables.Tables.{Tables}
 use Rattle.reader.specs.Data.{Func}
 use Rattle.reader.specs.Laws.{FormatLaw}
 use Rattle.reader.specs.Reading.{Outcome, done, refused, read}
 use Rattle.std.proofs.lemmas.Bool.{false≢true}
-
--- tests behind tests
-pub fault_behind : (ts us : List Test) → first_fault ts ≡ None → first_fault (ts ++ us) ≡ first_fault us
-fault_behind [] us e = refl
-fault_behind (t ∷ ts) us e = go t.passes e (fault_behind ts us)
-  where
-    go : (b : Bool) → cond b (first_fault ts) (Some (t.number, t.place)) ≡ None → (first_fault ts ≡ None → first_fault (ts ++ us) ≡ first_fault us)
-        → cond b (first_fault (ts ++ us)) (Some (t.number, t.place)) ≡ first_fault us
-    go true e ih = ih e
-    go false e ih = absurd (let z : ◌≡◌ {A = ℕ} 0 1 = cc in omega arith)
-
-pub fault_before : (ts us : List Test) (p : ℕ × ℕ) → first_fault ts ≡ Some p → first_fault (ts ++ us) ≡ Some p
-fault_before [] us p e = absurd (let z : ◌≡◌ {A = ℕ} 0 1 = cc in omega arith)
-fault_before (t ∷ ts) us p e = go t.passes e (fault_before ts us p)
-  where
-    go : (b : Bool) → cond b (first_fault ts) (Some (t.number, t.place)) ≡ Some p → (first_fault ts ≡ Some p → first_fault (ts ++ us) ≡ Some p)
-        → cond b (first_fault (ts ++ us)) (Some (t.number, t.place)) ≡ Some p
-    go true e ih = ih e
-    go false e ih = e
 
 func_or : Func → Outcome Func → Func
 func_or g (done f) = f
@@ -51,7 +32,7 @@ some_none e = let z : ◌≡◌ {A = ℕ} 0 1 = cc in omega arith
 
 module _ (file : List ℕ) (law : FormatLaw file) where
   -- refused in reading
-  pub loaded_unread : (e : Refusal) (t : Tables) → read file ≡ refused (refusal_number e) (refusal_place e) → view t ≡ zero_store → Loaded file (Err e) t
+  pub loaded_unread : (e : Refusal) (t : Tables) → read file ≡ refused (refusal_number e) (refusal_place e) → t ≡ zero_store → Loaded file (Err e) t
   loaded_unread e t r z =
       let none : (f : Func) → Accepted file f → ⊥ = λ f a. not_done _ _ f (sym r ∙ (law f).1 (a.bytes, a.within)) in
       record {
@@ -66,7 +47,7 @@ module _ (file : List ℕ) (law : FormatLaw file) where
     only : (g : Func) → Accepted file g → g ≡ f
     only g a = done_same g f (sym ((law g).1 (a.bytes, a.within)) ∙ r)
 
-    pub loaded_bad : (e : Refusal) (t : Tables) → Some (refusal_number e, refusal_place e) ≡ first_fault (all_tests f) → view t ≡ zero_store → Loaded file (Err e) t
+    pub loaded_bad : (e : Refusal) (t : Tables) → Some (refusal_number e, refusal_place e) ≡ first_fault (all_tests f) → t ≡ zero_store → Loaded file (Err e) t
     loaded_bad e t h z =
         let none : (g : Func) → Accepted file g → ⊥ = λ g a. some_none (h ∙ ap (λ x. first_fault (all_tests x)) (sym (only g a)) ∙ a.checked) in
         record {
@@ -89,7 +70,7 @@ module _ (file : List ℕ) (law : FormatLaw file) where
         }
 
     -- the answer of the checks, whichever it is
-    pub loaded_refused : (x : Result (Unit {0}) Refusal) (t : Tables) → is_err x ≡ true → fault_of x ≡ first_fault (all_tests f) → view t ≡ zero_store → Loaded file x t
+    pub loaded_refused : (x : Result (Unit {0}) Refusal) (t : Tables) → is_err x ≡ true → fault_of x ≡ first_fault (all_tests f) → t ≡ zero_store → Loaded file x t
     loaded_refused (Ok x) t b h z = absurd (false≢true b)
     loaded_refused (Err e) t b h z = loaded_bad e t h z
 

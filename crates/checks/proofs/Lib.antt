@@ -4,4 +4,4 @@ pub mod Loops
 pub mod NumberTold
 pub mod OrderTold
 pub mod RowTold
-pub mod UsesTold
+pub mod Runs

@@ -1,15 +1,15 @@
 -- What the tables say of the numbers that an instruction names, once its row fits.
-use Rattle.std.proofs.Common.{◌≡◌, ℕ, ◌≤◌, Bool, true, false, not, ◌&&◌, ◌||◌, leb, List, [], ◌∷◌, length, is_some, Some, None, Option, sym, refl, ap, ◌∙◌, ap₂, arith}
+use Rattle.std.proofs.Common.{◌≡◌, ℕ, ◌≤◌, Bool, true, false, not, ◌&&◌, ◌||◌, leb, List, [], ◌∷◌, length, is_some, Some, None, Option, sym, refl, ap, ◌∙◌, ap₂, arith, slice_get}
 use Rattle.checks.specs.Checks.{shape_fits, shape_of, row_fits, same_flag, destination_fits, value_exists, numbers_fit, with_inst, row_test}
 use Rattle.checks.specs.Steps.{maybe_fits, ends_fit}
-use Rattle.checks.specs.Tests.{all_pass}
+use Rattle.std.specs.List.{list_all}
 use Rattle.clif.specs.Rows.{row_of, within_span}
 use Rattle.clif.specs.declared.entities.Block.{Block}
 use Rattle.clif.specs.declared.entities.Value.{Value}
 use Rattle.clif.specs.declared.opcodes.Opcode.{Opcode}
 use Rattle.clif.specs.declared.opcodes.Opcode.TheVariants.{Iconst, Iadd, Imul, Umulhi, Icmp, UaddOverflow, Load, Store, Call, Jump, Brif, Return, Trap}
 use Rattle.function.specs.Answers.{ending_of, list_in, option_in, inst_of, block_of, last_of, results_of}
-use Rattle.function.specs.Numbering.{nth, uses_of}
+use Rattle.function.specs.Numbering.{uses_of}
 use Rattle.reader.specs.Data.{Destination, Instruction, Func}
 use Rattle.std.proofs.lemmas.List.{nil_from_length}
 use Rattle.std.proofs.lemmas.Bool.{and_parts, leb-true, true≢false}
@@ -54,24 +54,24 @@ and_true false = refl
 
 -- the two places that the tables keep are all that there is of at most two destinations
 pub two_pass : (test : Destination → Bool) (maybe : Option Destination → Bool) → maybe None ≡ true → ((d : Destination) → maybe (Some d) ≡ test d) → (ds : List Destination) → length ds ≤ 2
-    → (maybe (nth ds 0) && maybe (nth ds 1)) ≡ all_pass test ds
+    → (maybe (slice_get ds 0) && maybe (slice_get ds 1)) ≡ list_all test ds
 two_pass test maybe n s [] h = ap₂ ◌&&◌ n n
 two_pass test maybe n s (a ∷ []) h = ap₂ ◌&&◌ (s a) n
 two_pass test maybe n s (a ∷ b ∷ []) h = ap₂ ◌&&◌ (s a) (s b ∙ sym (and_true (test b)))
 two_pass test maybe n s (a ∷ b ∷ c ∷ ds) h = absurd (omega arith)
 
 pub numbers_told : (f : Func) (x : Instruction) (last : Bool) (b : Block) (rs : List Value) → row_fits f x last rs ≡ true → (last ≡ true → ending_of f b.0 ≡ Some x)
-    → (all_pass (value_exists f) (uses_of x) && ends_fit f last (Some b)) ≡ numbers_fit f x
-numbers_told f x true b rs h e = ap (λ t. all_pass (value_exists f) (uses_of x) && t)
-    (ap (λ o. maybe_fits f (option_in o (λ y. nth y.destinations 0)) && maybe_fits f (option_in o (λ y. nth y.destinations 1))) (e refl) ∙ two_pass (destination_fits f) (maybe_fits f) refl (λ d. refl) x.destinations (row_says f x true rs h).0)
-numbers_told f x false b rs h e = ap (λ ds. all_pass (value_exists f) (uses_of x) && all_pass (destination_fits f) ds) (sym ((row_says f x false rs h).1 refl))
+    → (list_all (value_exists f) (uses_of x) && ends_fit f last (Some b)) ≡ numbers_fit f x
+numbers_told f x true b rs h e = ap (λ t. list_all (value_exists f) (uses_of x) && t)
+    (ap (λ o. maybe_fits f (option_in o (λ y. slice_get y.destinations 0)) && maybe_fits f (option_in o (λ y. slice_get y.destinations 1))) (e refl) ∙ two_pass (destination_fits f) (maybe_fits f) refl (λ d. refl) x.destinations (row_says f x true rs h).0)
+numbers_told f x false b rs h e = ap (λ ds. list_all (value_exists f) (uses_of x) && list_all (destination_fits f) ds) (sym ((row_says f x false rs h).1 refl))
 
 -- the same, of instruction i
 pub numbers_at : (f : Func) (i : ℕ) (x : Instruction) (b : Block) (p q : Bool) → inst_of f i ≡ Some x → block_of f i ≡ Some b → (last_of f i ≡ true → ending_of f b.0 ≡ inst_of f i)
-    → (row_test f i).passes ≡ true → p ≡ all_pass (value_exists f) (list_in (inst_of f i) uses_of) → q ≡ ends_fit f (last_of f i) (block_of f i)
+    → (row_test f i).passes ≡ true → p ≡ list_all (value_exists f) (list_in (inst_of f i) uses_of) → q ≡ ends_fit f (last_of f i) (block_of f i)
     → (p && q) ≡ with_inst f i (numbers_fit f)
 numbers_at f i x b p q ix bx end row hp hq =
     let r : row_fits f x (last_of f i) (results_of f i) ≡ true = sym (ap (λ o. elim o [ None ↦ true | Some y ↦ row_fits f y (last_of f i) (results_of f i) ]) ix) ∙ row in
-    ap₂ ◌&&◌ (hp ∙ ap (λ o. all_pass (value_exists f) (list_in o uses_of)) ix) (hq ∙ ap (ends_fit f (last_of f i)) bx)
+    ap₂ ◌&&◌ (hp ∙ ap (λ o. list_all (value_exists f) (list_in o uses_of)) ix) (hq ∙ ap (ends_fit f (last_of f i)) bx)
     ∙ numbers_told f x (last_of f i) b (results_of f i) r (λ l. end l ∙ ix)
     ∙ sym (ap (λ o. elim o [ None ↦ true | Some y ↦ numbers_fit f y ]) ix)

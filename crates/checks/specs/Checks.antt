@@ -1,6 +1,7 @@
 -- The checks of a function that was read, each as a property of the function, in the order in which they are made.
-use Rattle.std.specs.Prelude.{ℕ, zero, suc, ◌^◌, Bool, true, false, cond, not, ◌&&◌, ◌||◌, List, [], ◌∷◌, ◌++◌, length, is_some, Some, None, Option, ◌==◌, nat_le, nat_lt}
-use Rattle.checks.specs.Tests.{Test, all_pass}
+use Rattle.std.specs.Prelude.{ℕ, ◌^◌, Bool, true, false, cond, not, ◌&&◌, ◌||◌, List, [], ◌∷◌, ◌++◌, length, is_some, Some, None, Option, ◌==◌, nat_le, nat_lt, slice_get}
+use Rattle.checks.specs.Tests.{Test, tests_from}
+use Rattle.std.specs.List.{list_all}
 use Rattle.clif.specs.Rows.{row_of, within_span}
 use Rattle.clif.specs.Types.{type_number, type_bits}
 use Rattle.clif.specs.declared.entities.Block.{Block}
@@ -11,7 +12,7 @@ use Rattle.checks.specs.declared.rows.Shape.{Shape}
 use Rattle.clif.specs.declared.opcodes.Row.{Row}
 use Rattle.clif.specs.declared.types.«Type».{«Type» as Ty}
 use Rattle.function.specs.Answers.{all_insts, inst_of, params_of, results_of, block_of, last_of, ending_of, list_in, type_of_value, def_of_value, entry_of_block, entry_of_edge}
-use Rattle.function.specs.Numbering.{nth, uses_of, value_rows}
+use Rattle.function.specs.Numbering.{uses_of, value_rows}
 use Rattle.function.specs.declared.rows.ValueDef.{ValueDef}
 use Rattle.function.specs.declared.rows.ValueDef.TheVariants.{Param, Result}
 use Rattle.reader.specs.Data.{Destination, Instruction, Func}
@@ -82,7 +83,7 @@ abbrev pub value_exists : Func → Value → Bool
 value_exists f v = nat_lt v.0 (length (value_rows f))
 
 abbrev pub numbers_fit : Func → Instruction → Bool
-numbers_fit f x = all_pass (value_exists f) (uses_of x) && all_pass (destination_fits f) x.destinations
+numbers_fit f x = list_all (value_exists f) (uses_of x) && list_all (destination_fits f) x.destinations
 
 -- The order (5)
 
@@ -104,7 +105,7 @@ entry_fits f e (to_block b) =
     nat_lt b.0 (length f.blocks)
     && (is_entry (entry_of_block f b.0) e
     && (same_flag (e == 0) (b.0 == 0)
-    && all_pass (λ d. is_some (entry_of_block f d.target.0)) (destinations_of_block f b.0)))
+    && list_all (λ d. is_some (entry_of_block f d.target.0)) (destinations_of_block f b.0)))
 entry_fits f e (to_edge b k) =
     nat_lt b.0 (length f.blocks)
     && (nat_lt k (length (destinations_of_block f b.0))
@@ -134,7 +135,7 @@ value_before f b i v = elim (def_of_value f v.0) [ None ↦ false | Some d ↦ d
 -- all that instruction i uses is defined before it; a block that the order leaves out is not looked at
 abbrev pub uses_fit : Func → ℕ → Option Block → Bool
 uses_fit f i None = true
-uses_fit f i (Some b) = not (is_some (entry_of_block f b.0)) || all_pass (value_before f b.0 i) (list_in (inst_of f i) uses_of)
+uses_fit f i (Some b) = not (is_some (entry_of_block f b.0)) || list_all (value_before f b.0 i) (list_in (inst_of f i) uses_of)
 
 -- The tests, in their order: instruction by instruction the row and then the numbers, then the order entry by entry, then
 -- the uses instruction by instruction
@@ -149,23 +150,30 @@ abbrev pub numbers_test : Func → ℕ → Test
 numbers_test f i = record { passes = with_inst f i (numbers_fit f); number = 4; place = i }
 
 abbrev pub entry_test : Func → ℕ → Test
-entry_test f e = record { passes = elim (nth f.order e) [ None ↦ true | Some x ↦ entry_fits f e x ]; number = 5; place = e }
+entry_test f e = record { passes = elim (slice_get f.order e) [ None ↦ true | Some x ↦ entry_fits f e x ]; number = 5; place = e }
 
 abbrev pub uses_test : Func → ℕ → Test
 uses_test f i = record { passes = uses_fit f i (block_of f i); number = 6; place = i }
 
+-- each instruction's two tests; each entry's; each instruction's of its uses
+abbrev pub tests_of_inst : Func → ℕ → List Test
+tests_of_inst f i = row_test f i ∷ numbers_test f i ∷ []
+
+abbrev pub tests_of_entry : Func → ℕ → List Test
+tests_of_entry f e = entry_test f e ∷ []
+
+abbrev pub tests_of_uses : Func → ℕ → List Test
+tests_of_uses f i = uses_test f i ∷ []
+
 -- n instructions from i on; n entries from e on
 abbrev pub inst_tests : Func → ℕ → ℕ → List Test
-inst_tests f i zero = []
-inst_tests f i (suc n) = row_test f i ∷ numbers_test f i ∷ inst_tests f (suc i) n
+inst_tests f = tests_from (tests_of_inst f)
 
 abbrev pub entry_tests : Func → ℕ → ℕ → List Test
-entry_tests f e zero = []
-entry_tests f e (suc n) = entry_test f e ∷ entry_tests f (suc e) n
+entry_tests f = tests_from (tests_of_entry f)
 
 abbrev pub uses_tests : Func → ℕ → ℕ → List Test
-uses_tests f i zero = []
-uses_tests f i (suc n) = uses_test f i ∷ uses_tests f (suc i) n
+uses_tests f = tests_from (tests_of_uses f)
 
 abbrev pub all_tests : Func → List Test
 all_tests f = inst_tests f 0 (length (all_insts f)) ++ (entry_tests f 0 (length f.order) ++ uses_tests f 0 (length (all_insts f)))

@@ -1,5 +1,5 @@
 -- Tests in an order: the first that fails decides.
-use Rattle.std.specs.Prelude.{ℕ, Bool, true, cond, ◌&&◌, List, [], ◌∷◌, Some, None, Ok, Err, Option, Result}
+use Rattle.std.specs.Prelude.{ℕ, zero, suc, Bool, cond, List, [], ◌∷◌, ◌++◌, Some, None, Ok, Err, Option, Result}
 use Rattle.clif.specs.Refusals.{refusal_number, refusal_place}
 use Rattle.clif.specs.declared.refusals.Refusal.{Refusal}
 
@@ -19,7 +19,7 @@ abbrev pub fault_of : Result (Unit {0}) Refusal → Option (ℕ × ℕ)
 fault_of (Ok _) = None
 fault_of (Err e) = Some (refusal_number e, refusal_place e)
 
--- whether all elements pass
-abbrev pub all_pass : {X : Type 0} → (X → Bool) → List X → Bool
-all_pass test [] = true
-all_pass test (x ∷ xs) = test x && all_pass test xs
+-- the tests of n numbers, from i on
+abbrev pub tests_from : (ℕ → List Test) → ℕ → ℕ → List Test
+tests_from each i zero = []
+tests_from each i (suc n) = each i ++ tests_from each (suc i) n

@@ -5,7 +5,7 @@ use Rattle.checks.specs.Facts.{Facts}
 use Rattle.checks.specs.Tests.{first_fault}
 use Rattle.clif.specs.Refusals.{refusal_number, refusal_place}
 use Rattle.clif.specs.declared.refusals.Refusal.{Refusal}
-use Rattle.function.specs.Holding.{Holds, view, zero_store}
+use Rattle.function.specs.Holding.{Holds, zero_store}
 use Rattle.function.specs.declared.tables.Tables.{Tables}
 use Rattle.reader.specs.Data.{Func}
 use Rattle.reader.specs.Reading.{Outcome, done, refused, read}
@@ -37,11 +37,11 @@ Said (Err e) n p = (refusal_number e ≡ n) × (refusal_place e ≡ p)
 
 abbrev pub ZeroIfRefused : Result (Unit {0}) Refusal → Tables → Type 0
 ZeroIfRefused (Ok _) t = Unit {0}
-ZeroIfRefused (Err e) t = view t ≡ zero_store
+ZeroIfRefused (Err e) t = t ≡ zero_store
 
 -- what loading a file promises: it is accepted exactly if the file is the bytes of a function within the limits that has
--- every checked property; the tables then hold that function, and it has the facts that later layers rely on; it is refused with a number at a place exactly if they
--- are the first fault; and after a refusal every table is zero
+-- every checked property; the tables then hold that function, and it has the facts that later layers rely on; it is
+-- refused with a number at a place exactly if they are the first fault; and after a refusal every table is zero
 pub record Loaded (file : List ℕ) (r : Result (Unit {0}) Refusal) (t : Tables) : Type 0 where
   pub accepts : (is_ok r ≡ true) ↔ ((f : Func) × Accepted file f)
   pub holds : (f : Func) → Accepted file f → Holds t f

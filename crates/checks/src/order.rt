@@ -1,34 +1,22 @@
 // The order, entry by entry.
-ghost use Rattle.std.specs.Prelude.{◌≡◌, length};
+// Options of which a call decides are taken apart by `match`: what the call answers inside a closure is lost to the proof.
+ghost use Rattle.std.specs.Prelude.{◌≡◌, length, is_some};
 ghost use Rattle.checks.specs.Checks.{is_entry, is_before, entry_test, entry_tests};
 ghost use Rattle.checks.specs.Steps.{maybe_ordered, kept_entry_fits, InstsPass};
 ghost use Rattle.checks.specs.Tests.{first_fault, fault_of};
 ghost use Rattle.clif.specs.declared.entities.Entry.TheVariants.{Block as to_block, Edge as to_edge};
-ghost use Rattle.function.specs.Answers.{Shows, call_of};
+ghost use Rattle.function.specs.Answers.{Shows, call_of, destination_of_block};
 ghost use Rattle.reader.specs.Data.{Func};
 ghost use Rattle.std.specs.Option.{option_map};
 
-use crate::rows::{both, same};
-use clif::entities::{Block, Entry};
+use clif::entities::{Block, EntityRef, Entry};
 use clif::refusals::Refusal;
 use function::function::{BlockCall, Function};
-
-fn is_entry(found: Option<usize>, e: usize) -> bool
-    ensures { result ≡ is_entry found e }
-{
-    match found {
-        Some(i) => i == e,
-        None => false,
-    }
-}
 
 pub(crate) fn is_before(found: Option<usize>, e: usize) -> bool
     ensures { result ≡ is_before found e }
 {
-    match found {
-        Some(i) => i < e,
-        None => false,
-    }
+    found.is_some_and(|i| i < e)
 }
 
 fn is_ordered(func: Function, call: Option<BlockCall>) -> bool
@@ -43,22 +31,27 @@ fn is_ordered(func: Function, call: Option<BlockCall>) -> bool
 fn block_fits(func: Function, e: usize, b: Block) -> bool
     ensures { (f : Func) → Shows func.entry f → result ≡ kept_entry_fits f e (to_block b) }
 {
-    let exists = b.index() < func.num_blocks();
-    let here = is_entry(func.block_entry(b), e);
-    let zero = same(e == 0, b.index() == 0);
-    let first = is_ordered(func, func.destination(b, 0));
-    let second = is_ordered(func, func.destination(b, 1));
-    both(exists, both(here, both(zero, both(first, second))))
+    b.index() < func.num_blocks()
+        && func.block_entry(b) == Some(e)
+        && (e == 0) == (b.index() == 0)
+        && is_ordered(func, func.destination(b, 0))
+        && is_ordered(func, func.destination(b, 1))
+}
+
+// Whether there is such an edge.
+fn leads(func: Function, b: Block, k: usize) -> bool
+    ensures { (f : Func) → Shows func.entry f → result ≡ is_some (destination_of_block f b.0 k) }
+{
+    func.destination(b, k).is_some()
 }
 
 fn edge_fits(func: Function, e: usize, b: Block, k: u8) -> bool
     ensures { (f : Func) → Shows func.entry f → result ≡ kept_entry_fits f e (to_edge b k) }
 {
-    let exists = b.index() < func.num_blocks();
-    let leads = func.destination(b, k as usize).is_some();
-    let here = is_entry(func.edge_entry(b, k as usize), e);
-    let behind = is_before(func.block_entry(b), e);
-    both(exists, both(leads, both(here, behind)))
+    b.index() < func.num_blocks()
+        && leads(func, b, k as usize)
+        && func.edge_entry(b, k as usize) == Some(e)
+        && is_before(func.block_entry(b), e)
 }
 
 fn entry_fits(func: Function, e: usize, x: Entry) -> bool
@@ -83,6 +76,7 @@ pub(crate) fn check_order(func: Function) -> Result<(), Refusal>
     ensures { (f : Func) → Shows func.entry f → InstsPass f → fault_of result ≡ first_fault (entry_tests f 0 (length f.order)) }
 {
     let n = func.num_entries();
+    // By number: a refusal says which.
     for e in 0..n {
         if !entry_passes(func, e) {
             return Err(Refusal::BadOrder(e));

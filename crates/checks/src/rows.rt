@@ -1,5 +1,6 @@
 // Each instruction looks as its opcode's row says.
-ghost use Rattle.std.specs.Prelude.{◌≡◌, ◌&&◌, ◌||◌};
+// Options of which a call decides are taken apart by `match`: what the call answers inside a closure is lost to the proof.
+ghost use Rattle.std.specs.Prelude.{◌≡◌};
 ghost use Rattle.checks.specs.Checks.{width_fits, first_type, constant_fits, shape_fits, row_fits, same_flag, with_inst};
 ghost use Rattle.function.specs.Answers.{Shows, last_of, results_of, inst_of, option_in};
 ghost use Rattle.reader.specs.Data.{Func};
@@ -20,26 +21,14 @@ struct Shape {
     last: bool,
 }
 
-pub(crate) fn both(a: bool, b: bool) -> bool
-    ensures { result ≡ (a && b) }
-{
-    a && b
-}
-
-pub(crate) fn same(a: bool, b: bool) -> bool
-    ensures { result ≡ same_flag a b }
-{
-    a == b
-}
-
 // Whether a constant has no bit above its width.
 fn width_fits(n: u64, ty: Option<Type>) -> bool
     ensures { result ≡ width_fits n ty }
 {
     match ty {
-        Some(Type::I8) => n < 256,
-        Some(Type::I16) => n < 65536,
-        Some(Type::I32) => n < 4294967296,
+        Some(Type::I8) => u8::try_from(n).is_ok(),
+        Some(Type::I16) => u16::try_from(n).is_ok(),
+        Some(Type::I32) => u32::try_from(n).is_ok(),
         Some(Type::I64) => true,
         Some(Type::I128) | None => false,
     }
@@ -48,10 +37,8 @@ fn width_fits(n: u64, ty: Option<Type>) -> bool
 fn first_type(func: Function, inst: Inst) -> Option<Type>
     ensures { (f : Func) → Shows func.entry f → result ≡ first_type f (results_of f inst.0) }
 {
-    match func.inst_results(inst) {
-        [first, ..] => func.value_type(*first),
-        [] => None,
-    }
+    let first = func.inst_results(inst).first()?;
+    func.value_type(*first)
 }
 
 fn constant_fits(func: Function, inst: Inst) -> bool
@@ -66,19 +53,12 @@ fn constant_fits(func: Function, inst: Inst) -> bool
 fn shape_fits(row: Row, x: Shape) -> bool
     ensures { result ≡ shape_fits row x }
 {
-    let operands = row.operands.holds(x.operands);
-    let results = row.results.holds(x.results);
-    let destinations = row.destinations.holds(x.destinations);
-    let immediate = same(row.immediate, x.immediate);
-    let flag = row.flag || !x.flag;
-    let terminator = same(row.class.terminator, x.last);
-    both(
-        operands,
-        both(
-            results,
-            both(destinations, both(immediate, both(flag, terminator))),
-        ),
-    )
+    row.operands.holds(x.operands)
+        && row.results.holds(x.results)
+        && row.destinations.holds(x.destinations)
+        && row.immediate == x.immediate
+        && (row.flag || !x.flag)
+        && row.class.terminator == x.last
 }
 
 pub(crate) fn row_fits(func: Function, inst: Inst) -> bool
@@ -95,5 +75,5 @@ pub(crate) fn row_fits(func: Function, inst: Inst) -> bool
         flag: func.flag(inst).is_some(),
         last: func.is_last(inst),
     };
-    both(shape_fits(opcode.row(), shape), constant_fits(func, inst))
+    shape_fits(opcode.row(), shape) && constant_fits(func, inst)
 }

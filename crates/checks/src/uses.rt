@@ -1,16 +1,21 @@
 // Each use comes after its definition, in the order's order.
+// Options of which a call decides are taken apart by `match`: what the call answers inside a closure is lost to the proof.
 ghost use Rattle.std.specs.Prelude.{◌≡◌, length};
-ghost use Rattle.checks.specs.Checks.{ordered_before, inst_before, def_before, value_before, uses_tests};
-ghost use Rattle.checks.specs.Steps.{fault_at};
+ghost use Rattle.checks.specs.Checks.{ordered_before, inst_before, def_before, value_before, uses_test, uses_tests};
 ghost use Rattle.checks.specs.Tests.{first_fault, fault_of};
-ghost use Rattle.function.specs.Answers.{Shows, all_insts, block_of, entry_of_block};
+ghost use Rattle.std.specs.List.{list_all};
+ghost use Rattle.function.specs.Answers.{Shows, all_insts, block_of, entry_of_block, inst_of, list_in};
+ghost use Rattle.function.specs.Numbering.{uses_of};
 ghost use Rattle.reader.specs.Data.{Func};
 
 use crate::order::is_before;
-use clif::entities::{Block, Inst, Value};
+use clif::entities::{Block, EntityRef, Inst, Value};
 use clif::refusals::Refusal;
 use function::function::Function;
 use function::rows::ValueDef;
+
+// Each of these asks of instruction `i` of block `b`, and its contract names all three: a struct of them would be taken apart
+// in every clause.
 
 // Whether block `c` stands before block `b` in the order.
 fn ordered_before(func: Function, c: Block, b: Block) -> bool
@@ -27,7 +32,7 @@ fn inst_before(func: Function, b: Block, i: usize, j: Inst) -> bool
 {
     match func.inst_block(j) {
         Some(c) => {
-            if c.index() == b.index() {
+            if c == b {
                 j.index() < i
             } else {
                 ordered_before(func, c, b)
@@ -41,7 +46,7 @@ fn def_before(func: Function, b: Block, i: usize, def: ValueDef) -> bool
     ensures { (f : Func) → Shows func.entry f → result ≡ def_before f b.0 i def }
 {
     match def {
-        ValueDef::Param(c, _) => c.index() == b.index() || ordered_before(func, c, b),
+        ValueDef::Param(c, _) => c == b || ordered_before(func, c, b),
         ValueDef::Result(j, _) => inst_before(func, b, i, j),
     }
 }
@@ -55,36 +60,33 @@ fn value_before(func: Function, b: Block, i: usize, v: Value) -> bool
     }
 }
 
-// The first instruction, in file order, with a use that is not defined before it.
-fn early_use(func: Function) -> Option<usize>
-    ensures { (f : Func) → Shows func.entry f → fault_at result ≡ first_fault (uses_tests f 0 (length (all_insts f))) }
+fn uses_before(func: Function, b: Block, inst: Inst) -> bool
+    ensures { (f : Func) → Shows func.entry f → result ≡ list_all (value_before f b.0 inst.0) (list_in (inst_of f inst.0) uses_of) }
 {
-    let blocks = func.num_blocks();
-    let insts = func.num_insts();
-    'search: {
-        for b in 0..blocks {
-            let block = Block(b as u16);
-            if func.block_entry(block).is_none() {
-                continue;
-            }
-            let end = func.block_end(block).min(insts);
-            for i in func.block_first(block)..end {
-                for v in func.inst_uses(Inst(i as u16)) {
-                    if !value_before(func, block, i, *v) {
-                        break 'search Some(i);
-                    }
-                }
-            }
-        }
-        None
+    func.inst_uses(inst)
+        .iter()
+        .all(|v| value_before(func, b, inst.index(), *v))
+}
+
+// Whether all that an instruction uses is defined before it. A block that the order leaves out is not looked at.
+fn uses_fit(func: Function, inst: Inst) -> bool
+    ensures { (f : Func) → Shows func.entry f → result ≡ (uses_test f inst.0).passes }
+{
+    match func.inst_block(inst) {
+        Some(b) => func.block_entry(b).is_none() || uses_before(func, b, inst),
+        None => true,
     }
 }
 
 pub(crate) fn check_uses(func: Function) -> Result<(), Refusal>
     ensures { (f : Func) → Shows func.entry f → fault_of result ≡ first_fault (uses_tests f 0 (length (all_insts f))) }
 {
-    match early_use(func) {
-        Some(i) => Err(Refusal::UseBeforeDefinition(i)),
-        None => Ok(()),
+    let n = func.num_insts();
+    // By number: a refusal says which.
+    for i in 0..n {
+        if !uses_fit(func, Inst(i as u16)) {
+            return Err(Refusal::UseBeforeDefinition(i));
+        }
     }
+    Ok(())
 }

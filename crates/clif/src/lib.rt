@@ -2,6 +2,7 @@
 #![tactic(auto)]
 
 pub mod entities;
+pub mod numbers;
 pub mod opcodes;
 pub mod refusals;
 pub mod types;

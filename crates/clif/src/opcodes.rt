@@ -1,6 +1,12 @@
 // The opcodes, with what an instruction of each must look like.
-ghost use Rattle.std.specs.Prelude.{◌≡◌, false};
+ghost use Rattle.std.specs.Prelude.{◌≡◌, Some, false};
+ghost use Rattle.clif.specs.Find.{decoded};
+ghost use Rattle.clif.specs.Names.{opcode_name};
 ghost use Rattle.clif.specs.Rows.{opcode_number, opcode_of, row_of, has_class, within_span, counted, make_row};
+
+use crate::numbers::UnknownNumber;
+use std::fmt;
+use std::fmt::{Display, Formatter, Write};
 
 #[derive(Clone, Copy, PartialEq, Eq, Debug)]
 pub enum Opcode {
@@ -55,44 +61,23 @@ const PURE: Class = Class {
     terminator: false,
 };
 
-const LOAD: Class = Class {
-    load: true,
-    store: false,
-    call: false,
-    branch: false,
-    terminator: false,
-};
+const LOAD: Class = Class { load: true, ..PURE };
 
 const STORE: Class = Class {
-    load: false,
     store: true,
-    call: false,
-    branch: false,
-    terminator: false,
+    ..PURE
 };
 
-const CALL: Class = Class {
-    load: false,
-    store: false,
-    call: true,
-    branch: false,
-    terminator: false,
+const CALL: Class = Class { call: true, ..PURE };
+
+const EXIT: Class = Class {
+    terminator: true,
+    ..PURE
 };
 
 const BRANCH: Class = Class {
-    load: false,
-    store: false,
-    call: false,
     branch: true,
-    terminator: true,
-};
-
-const EXIT: Class = Class {
-    load: false,
-    store: false,
-    call: false,
-    branch: false,
-    terminator: true,
+    ..EXIT
 };
 
 impl Span {
@@ -131,35 +116,41 @@ fn plain(operands: Span, results: Span, class: Class) -> Row
     }
 }
 
-impl Opcode {
-    // The opcode that a byte of a file stands for.
-    pub fn from_number(n: u8) -> Option<Opcode>
-        ensures { result ≡ opcode_of n }
-    {
+// The opcode that a byte of a file stands for.
+impl TryFrom<u8> for Opcode {
+    type Error = UnknownNumber;
+
+    ghost try_from_gives = { λ n r. r ≡ decoded opcode_of n };
+
+    fn try_from(n: u8) -> Result<Opcode, UnknownNumber> {
         match n {
-            1 => Some(Opcode::Iconst),
-            3 => Some(Opcode::Iadd),
-            5 => Some(Opcode::Imul),
-            6 => Some(Opcode::Umulhi),
-            8 => Some(Opcode::Icmp),
-            9 => Some(Opcode::UaddOverflow),
-            14 => Some(Opcode::Load),
-            15 => Some(Opcode::Store),
-            17 => Some(Opcode::Call),
-            21 => Some(Opcode::Jump),
-            22 => Some(Opcode::Brif),
-            24 => Some(Opcode::Return),
-            25 => Some(Opcode::Trap),
-            _ => None,
+            1 => Ok(Opcode::Iconst),
+            3 => Ok(Opcode::Iadd),
+            5 => Ok(Opcode::Imul),
+            6 => Ok(Opcode::Umulhi),
+            8 => Ok(Opcode::Icmp),
+            9 => Ok(Opcode::UaddOverflow),
+            14 => Ok(Opcode::Load),
+            15 => Ok(Opcode::Store),
+            17 => Ok(Opcode::Call),
+            21 => Ok(Opcode::Jump),
+            22 => Ok(Opcode::Brif),
+            24 => Ok(Opcode::Return),
+            25 => Ok(Opcode::Trap),
+            _ => Err(UnknownNumber(n)),
         }
     }
+}
 
-    pub fn number(self) -> u8
-        ensures { result ≡ opcode_number self }
-    {
-        self as u8
+impl From<Opcode> for u8 {
+    ghost from_gives = { λ o n. n ≡ opcode_number o };
+
+    fn from(opcode: Opcode) -> u8 {
+        opcode as u8
     }
+}
 
+impl Opcode {
     // The opcode's row of the table in docs/format.md.
     pub fn row(self) -> Row
         ensures { result ≡ row_of self }
@@ -192,5 +183,27 @@ impl Opcode {
             Opcode::Return => plain(Span { least: 0, most: 4 }, exactly(0), EXIT),
             Opcode::Trap => plain(exactly(0), exactly(0), EXIT),
         }
+    }
+}
+
+impl Display for Opcode {
+    ghost output = { λ o. Some (opcode_name o) };
+
+    fn fmt<W: Write>(&self, f: &mut Formatter<W>) -> fmt::Result {
+        f.write_str(match self {
+            Opcode::Iconst => "iconst",
+            Opcode::Iadd => "iadd",
+            Opcode::Imul => "imul",
+            Opcode::Umulhi => "umulhi",
+            Opcode::Icmp => "icmp",
+            Opcode::UaddOverflow => "uadd_overflow",
+            Opcode::Load => "load",
+            Opcode::Store => "store",
+            Opcode::Call => "call",
+            Opcode::Jump => "jump",
+            Opcode::Brif => "brif",
+            Opcode::Return => "return",
+            Opcode::Trap => "trap",
+        })
     }
 }

@@ -1,9 +1,14 @@
 // Every way in which the product says no. docs/refusals.md has the table.
-ghost use Rattle.std.specs.Prelude.{◌≡◌};
+ghost use Rattle.std.specs.Prelude.{◌≡◌, Some};
+ghost use Rattle.clif.specs.Names.{refusal_name};
 ghost use Rattle.clif.specs.Refusals.{refusal_number, refusal_place};
 
+use std::error::Error;
+use std::fmt;
+use std::fmt::{Display, Formatter, Write};
+
 // Each case holds the place of the fault.
-#[derive(Clone, Copy, Debug)]
+#[derive(Clone, Copy, PartialEq, Eq, Debug)]
 pub enum Refusal {
     // The file breaks off, goes on, or has a byte that means nothing there: the field's first byte.
     Unreadable(usize),
@@ -48,6 +53,7 @@ pub enum Refusal {
 }
 
 impl Refusal {
+    // The number in the table of refusals. Not `From`: a number alone is no refusal.
     pub fn number(self) -> u8
         ensures { result ≡ refusal_number self }
     {
@@ -78,33 +84,44 @@ impl Refusal {
         }
     }
 
+    // Where the fault is, as the table says.
     pub fn place(self) -> usize
         ensures { result ≡ refusal_place self }
     {
         match self {
-            Refusal::Unreadable(p) => p,
-            Refusal::OverLimit(p) => p,
-            Refusal::UnlikeRow(p) => p,
-            Refusal::NoSuchNumber(p) => p,
-            Refusal::BadOrder(p) => p,
-            Refusal::UseBeforeDefinition(p) => p,
-            Refusal::RegisterLimit(p) => p,
-            Refusal::InstDeclined(p) => p,
-            Refusal::BranchDeclined(p) => p,
-            Refusal::NoRoom(p) => p,
-            Refusal::BadAnswer(p) => p,
-            Refusal::CircularAlias(p) => p,
-            Refusal::UnsupportedType(p) => p,
-            Refusal::NoSuchEntity(p) => p,
-            Refusal::RequestSunk(p) => p,
-            Refusal::RequestTooLate(p) => p,
-            Refusal::RequestCount(p) => p,
-            Refusal::SinkNoEffect(p) => p,
-            Refusal::SinkNoColour(p) => p,
-            Refusal::SinkRequested(p) => p,
-            Refusal::SinkOutOfTurn(p) => p,
-            Refusal::PendingFull(p) => p,
-            Refusal::UnsupportedTemporary(p) => p,
+            Refusal::Unreadable(p)
+            | Refusal::OverLimit(p)
+            | Refusal::UnlikeRow(p)
+            | Refusal::NoSuchNumber(p)
+            | Refusal::BadOrder(p)
+            | Refusal::UseBeforeDefinition(p)
+            | Refusal::RegisterLimit(p)
+            | Refusal::InstDeclined(p)
+            | Refusal::BranchDeclined(p)
+            | Refusal::NoRoom(p)
+            | Refusal::BadAnswer(p)
+            | Refusal::CircularAlias(p)
+            | Refusal::UnsupportedType(p)
+            | Refusal::NoSuchEntity(p)
+            | Refusal::RequestSunk(p)
+            | Refusal::RequestTooLate(p)
+            | Refusal::RequestCount(p)
+            | Refusal::SinkNoEffect(p)
+            | Refusal::SinkNoColour(p)
+            | Refusal::SinkRequested(p)
+            | Refusal::SinkOutOfTurn(p)
+            | Refusal::PendingFull(p)
+            | Refusal::UnsupportedTemporary(p) => p,
         }
     }
 }
+
+impl Display for Refusal {
+    ghost output = { λ e. Some (refusal_name e) };
+
+    fn fmt<W: Write>(&self, f: &mut Formatter<W>) -> fmt::Result {
+        write!(f, "refused {} at {}", self.number(), self.place())
+    }
+}
+
+impl Error for Refusal {}

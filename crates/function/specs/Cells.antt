@@ -1,14 +1,11 @@
 -- What a table holds.
-use Rattle.std.specs.Prelude.{ℕ, ◌+◌, min, List, [], ◌∷◌, ◌++◌, length, take, replicate, slice_set}
-use Rattle.function.specs.declared.table.Table.{Table}
+use Rattle.std.specs.Prelude.{ℕ, ◌+◌, min, List, ◌++◌, length, take, replicate, slice_set}
+use Rattle.std.specs.List.{fold}
 
 -- a table's places, and how many of them are in use
 pub record Cells (E : Type 0) : Type 0 where
   pub rows : List E
   pub len : ℕ
-
-abbrev pub cells : {E : Type 0} {N : ℕ} → Table E N → Cells E
-cells t = record { rows = t.rows; len = t.len }
 
 -- one more element, in a table of n places; none where it is full
 abbrev pub pushed : {E : Type 0} → ℕ → E → Cells E → Cells E
@@ -20,8 +17,7 @@ written i x c = record { rows = slice_set c.rows i x; len = c.len }
 
 -- several elements, one after another
 abbrev pub pushed_all : {E : Type 0} → ℕ → List E → Cells E → Cells E
-pushed_all n [] c = c
-pushed_all n (x ∷ xs) c = pushed_all n xs (pushed n x c)
+pushed_all n xs c = fold (λ t x. pushed n x t) c xs
 
 -- the table of a list, in n places: what is behind the list is zero
 abbrev pub table : {E : Type 0} → ℕ → E → List E → Cells E

@@ -1,6 +1,6 @@
 -- Numbers: blocks, instructions and values are numbered from 0 in file order, a block's parameters before the results of
 -- its instructions; uses (operands, then destination arguments) stand in file order too.
-use Rattle.std.specs.Prelude.{ℕ, zero, suc, ◌+◌, Bool, true, false, List, [], ◌∷◌, ◌++◌, length, Some, None, Option}
+use Rattle.std.specs.Prelude.{ℕ, suc, ◌+◌, Bool, true, false, List, [], ◌∷◌, ◌++◌, map, length, Option, slice_get}
 use Rattle.clif.specs.declared.entities.Inst.{Inst}
 use Rattle.clif.specs.declared.entities.Value.{Value}
 use Rattle.clif.specs.declared.types.«Type».{«Type» as Ty}
@@ -12,7 +12,7 @@ use Rattle.function.specs.declared.rows.ValueDef.{ValueDef}
 use Rattle.function.specs.declared.rows.ValueDef.TheVariants.{Param, Result}
 use Rattle.reader.specs.Data.{Destination, Instruction, Body, Func}
 use Rattle.reader.specs.Reading.{value_at, block_at}
-use Rattle.std.specs.List.{flat_map}
+use Rattle.std.specs.List.{flat_map, enumerate_from, range_with_len}
 
 -- how many instructions, values and uses come before a place in the file
 pub record Numbers : Type 0 where
@@ -57,20 +57,14 @@ abbrev pub over_insts : {X : Type 0} → (Bool → Numbers → Instruction → L
 over_insts g n [] = []
 over_insts g n (x ∷ xs) = g (is_last xs) n x ++ over_insts g (past_inst x n) xs
 
--- the values that one parameter list or result list defines
+-- the values that one parameter list or result list defines, by their indices from k on
 abbrev pub defined : (ℕ → ValueDef) → ℕ → List Ty → List ValueData
-defined def k [] = []
-defined def k (t ∷ ts) = record { ty = t; def = def k } ∷ defined def (suc k) ts
+defined def k ts = map (λ p. record { ty = p.1; def = def p.0 }) (enumerate_from k ts)
 
 -- the rows of the destinations of an instruction whose arguments begin at use u
 abbrev pub dest_rows : ℕ → List Destination → List DestData
 dest_rows u [] = []
 dest_rows u (d ∷ ds) = record { target = d.target; first_arg = u; args = length d.args } ∷ dest_rows (u + length d.args) ds
-
-abbrev pub nth : {X : Type 0} → List X → ℕ → Option X
-nth [] k = None
-nth (x ∷ xs) zero = Some x
-nth (x ∷ xs) (suc k) = nth xs k
 
 -- one row for each block and instruction, with its numbers
 abbrev pub block_row : Numbers → List Ty → ℕ → BlockData
@@ -93,9 +87,13 @@ inst_row b last n x = record {
 }
 
 -- the two places for the destinations of a block's last instruction
+abbrev pub two_places : Bool → List DestData → List (Option DestData)
+two_places false ds = []
+two_places true ds = slice_get ds 0 ∷ slice_get ds 1 ∷ []
+
+-- an instruction's two places, if it is the last of its block
 abbrev pub dest_places : Bool → Numbers → Instruction → List (Option DestData)
-dest_places false n x = []
-dest_places true n x = let ds = dest_rows (n.uses + length x.operands) x.destinations in nth ds 0 ∷ nth ds 1 ∷ []
+dest_places last n x = two_places last (dest_rows (n.uses + length x.operands) x.destinations)
 
 -- the rows of a function
 abbrev pub block_rows : Func → List BlockData
@@ -115,5 +113,4 @@ all_destinations f = over_blocks (λ b n x. over_insts dest_places (past_params 
 
 -- n values from v on
 abbrev pub values_from : ℕ → ℕ → List Value
-values_from v zero = []
-values_from v (suc n) = value_at v ∷ values_from (suc v) n
+values_from v n = map value_at (range_with_len v n)

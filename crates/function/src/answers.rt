@@ -1,14 +1,15 @@
-// The questions that a function answers. What does not exist is None, an empty slice or 0.
-ghost use Rattle.std.specs.Prelude.{◌≡◌, ℕ, ◌≤◌, length, None, slice_index_or};
+// The questions that a function answers. What does not exist is None, an empty slice or 0. Each clause is said of every
+// function that the tables show: why no type says it once stands at `Shows`.
+ghost use Rattle.std.specs.Prelude.{◌≡◌, ℕ, ◌≤◌, length, None, slice_index_or, slice_get};
 ghost use Rattle.function.specs.Answers.{Shows, list_in, option_in, number_in, inst_of, all_insts, params_of, results_of, first_of, end_of, block_of, last_of, destination_of_block, call_of, type_of_value, def_of_value, entry_of_block, entry_of_edge};
-ghost use Rattle.function.specs.Numbering.{uses_of, nth, value_rows};
+ghost use Rattle.function.specs.Numbering.{uses_of, value_rows};
 ghost use Rattle.reader.specs.Data.{Func};
 ghost use Rattle.std.specs.Option.{option_map};
 
 use crate::function::{BlockCall, Function};
-use crate::rows::{BlockData, InstData, ValueDef};
-use crate::tables::Tables;
-use clif::entities::{Block, Entry, Inst, Value};
+use crate::rows::{BlockData, InstData, ValueData, ValueDef};
+use crate::tables::{Tables, edge_place};
+use clif::entities::{Block, EntityRef, Entry, Inst, Value};
 use clif::opcodes::Opcode;
 use clif::types::Type;
 
@@ -32,6 +33,12 @@ impl<'a> Function<'a> {
         ensures { result ≡ slice_index_or self.entry.tables.now.insts.rows inst.0 None }
     {
         self.tables.insts.read(inst.index(), None)
+    }
+
+    fn value_data(self, value: Value) -> Option<ValueData>
+        ensures { result ≡ slice_index_or self.entry.tables.now.values.rows value.0 None }
+    {
+        self.tables.values.read(value.index(), None)
     }
 
     pub fn num_blocks(self) -> usize
@@ -65,80 +72,63 @@ impl<'a> Function<'a> {
     pub fn block_params(self, block: Block) -> &'a [Value]
         ensures { (f : Func) → Shows self.entry f → result.now ≡ params_of f block.0 }
     {
-        match self.block_data(block) {
-            Some(b) => self.tables.numbers.part(b.first_param, b.params),
-            None => &[],
-        }
+        self.block_data(block)
+            .map_or(&[], |b| self.tables.numbers.part(b.first_param, b.params))
     }
 
     // The number of the block's first instruction.
     pub fn block_first(self, block: Block) -> usize
         ensures { (f : Func) → Shows self.entry f → result ≡ first_of f block.0 }
     {
-        match self.block_data(block) {
-            Some(b) => b.first_inst,
-            None => 0,
-        }
+        self.block_data(block).map_or(0, |b| b.first_inst)
     }
 
     // The number behind the block's last instruction.
     pub fn block_end(self, block: Block) -> usize
         ensures { (f : Func) → Shows self.entry f → result ≡ end_of f block.0 }
     {
-        match self.block_data(block) {
-            Some(b) => b.first_inst.saturating_add(b.insts),
-            None => 0,
-        }
+        self.block_data(block)
+            .map_or(0, |b| b.first_inst.saturating_add(b.insts))
     }
 
     pub fn inst_block(self, inst: Inst) -> Option<Block>
         ensures { (f : Func) → Shows self.entry f → result ≡ block_of f inst.0 }
     {
-        Some(self.inst_data(inst)?.block)
+        self.inst_data(inst).map(|x| x.block)
     }
 
     // Whether the instruction is the last of its block.
     pub fn is_last(self, inst: Inst) -> bool
         ensures { (f : Func) → Shows self.entry f → result ≡ last_of f inst.0 }
     {
-        match self.inst_data(inst) {
-            Some(x) => x.last,
-            None => false,
-        }
+        self.inst_data(inst).is_some_and(|x| x.last)
     }
 
     pub fn opcode(self, inst: Inst) -> Option<Opcode>
         ensures { (f : Func) → Shows self.entry f → result ≡ option_map (λ x. x.opcode) (inst_of f inst.0) }
     {
-        Some(self.inst_data(inst)?.opcode)
+        self.inst_data(inst).map(|x| x.opcode)
     }
 
     pub fn inst_args(self, inst: Inst) -> &'a [Value]
         ensures { (f : Func) → Shows self.entry f → result.now ≡ list_in (inst_of f inst.0) (λ x. x.operands) }
     {
-        match self.inst_data(inst) {
-            Some(x) => self.tables.uses.part(x.first_use, x.operands),
-            None => &[],
-        }
+        self.inst_data(inst)
+            .map_or(&[], |x| self.tables.uses.part(x.first_use, x.operands))
     }
 
     // Operands and destination arguments.
     pub fn inst_uses(self, inst: Inst) -> &'a [Value]
         ensures { (f : Func) → Shows self.entry f → result.now ≡ list_in (inst_of f inst.0) uses_of }
     {
-        match self.inst_data(inst) {
-            Some(x) => self.tables.uses.part(x.first_use, x.uses),
-            None => &[],
-        }
+        self.inst_data(inst)
+            .map_or(&[], |x| self.tables.uses.part(x.first_use, x.uses))
     }
 
     pub fn inst_results(self, inst: Inst) -> &'a [Value]
         ensures { (f : Func) → Shows self.entry f → result.now ≡ results_of f inst.0 }
     {
-        match self.inst_data(inst) {
-            Some(x) => self.tables.numbers.part(x.first_result, x.results),
-            None => &[],
-        }
+        self.inst_data(inst).map_or(&[], |x| self.tables.numbers.part(x.first_result, x.results))
     }
 
     pub fn immediate(self, inst: Inst) -> Option<u64>
@@ -164,20 +154,14 @@ impl<'a> Function<'a> {
     pub fn num_destinations(self, inst: Inst) -> usize
         ensures { (f : Func) → Shows self.entry f → result ≡ number_in (inst_of f inst.0) (λ x. length x.destinations) }
     {
-        match self.inst_data(inst) {
-            Some(x) => x.destinations,
-            None => 0,
-        }
+        self.inst_data(inst).map_or(0, |x| x.destinations)
     }
 
     // A destination of the instruction that ends a block.
     pub fn destination(self, block: Block, k: usize) -> Option<BlockCall<'a>>
         ensures { (f : Func) → Shows self.entry f → option_map call_of result ≡ destination_of_block f block.0 k }
     {
-        if k >= 2 {
-            return None;
-        }
-        let d = self.tables.destinations.read(2 * block.index() + k, None)?;
+        let d = self.tables.destinations.read(edge_place(block, k)?, None)?;
         Some(BlockCall {
             block: d.target,
             args: self.tables.uses.part(d.first_arg, d.args),
@@ -187,18 +171,18 @@ impl<'a> Function<'a> {
     pub fn value_type(self, value: Value) -> Option<Type>
         ensures { (f : Func) → Shows self.entry f → result ≡ type_of_value f value.0 }
     {
-        Some(self.tables.values.read(value.index(), None)?.ty)
+        self.value_data(value).map(|row| row.ty)
     }
 
     pub fn value_def(self, value: Value) -> Option<ValueDef>
         ensures { (f : Func) → Shows self.entry f → result ≡ def_of_value f value.0 }
     {
-        Some(self.tables.values.read(value.index(), None)?.def)
+        self.value_data(value).map(|row| row.def)
     }
 
     // An entry of the order.
     pub fn entry(self, k: usize) -> Option<Entry>
-        ensures { (f : Func) → Shows self.entry f → result ≡ nth f.order k }
+        ensures { (f : Func) → Shows self.entry f → result ≡ slice_get f.order k }
     {
         self.tables.order.read(k, None)
     }
@@ -214,10 +198,6 @@ impl<'a> Function<'a> {
     pub fn edge_entry(self, block: Block, k: usize) -> Option<usize>
         ensures { (f : Func) → Shows self.entry f → result ≡ entry_of_edge f block.0 k }
     {
-        if k < 2 {
-            self.tables.edge_entries.read(2 * block.index() + k, None)
-        } else {
-            None
-        }
+        self.tables.edge_entries.read(edge_place(block, k)?, None)
     }
 }

@@ -1,196 +1,120 @@
 // Fills the tables from a file, record by record.
-ghost use Rattle.std.specs.Prelude.{◌≡◌, ℕ, ◌+◌, ◌^◌, ◌<◌, List, ◌++◌, map, length, Some};
-ghost use Rattle.function.specs.Cells.{cells, pushed_all};
-ghost use Rattle.function.specs.Filling.{at_index, push_numbers, placed, kept_more, KeptOf, store_block, store_inst, store_entry, two_of, noted, noted_block, noted_edge};
-ghost use Rattle.function.specs.Holding.{view, zero_store};
-ghost use Rattle.function.specs.Numbering.{defined, nth};
-ghost use Rattle.reader.specs.Parts.{words_of, types_of};
-ghost use Rattle.reader.specs.Records.{destinations_of, instruction_of};
+ghost use Rattle.std.specs.Prelude.{cond, [], ◌≡◌, ℕ, ◌+◌, ◌^◌, ◌<◌, ◌≤◌, List, ◌++◌, map, length, Some};
+ghost use Rattle.function.specs.Cells.{pushed_all};
+ghost use Rattle.function.specs.Filling.{numbered, placed, KeptOf, store_block, store_inst, store_entry, noted};
+ghost use Rattle.function.specs.Numbering.{defined};
+ghost use Rattle.reader.specs.Records.{destinations_of, instruction_of, types_in};
 ghost use Rattle.std.specs.List.{flat_map};
 
 use crate::rows::{BlockData, DestData, InstData, ValueData, ValueDef};
 use crate::table::Table;
-use crate::tables::Tables;
-use clif::entities::{Block, Entry, Inst, Value};
-use clif::types::Type;
+use crate::tables::{Tables, edge_place};
+use clif::entities::{Block, EntityRef, Entry, Inst, Value};
 use reader::records::{BlockRecord, Destinations, InstRecord};
 
-impl ValueDef {
-    fn at(self, k: usize) -> ValueDef
-        ensures { result ≡ at_index self k }
-    {
-        match self {
-            ValueDef::Param(b, _) => ValueDef::Param(b, k),
-            ValueDef::Result(i, _) => ValueDef::Result(i, k),
-        }
-    }
-}
-
-// The values of a list of types.
-fn push_values(values: &mut Table<Option<ValueData>, 2048>, types: &[u8], def: ValueDef) -> usize
-    ensures count { result ≡ length (types_of types.now) }
-    ensures pushed { cells values.new ≡ pushed_all 2048 (map Some (defined (at_index def) 0 (types_of types.now))) (cells values.old) }
+// The values up to `n`, each with its number.
+fn number(numbers: &mut Table<Value, 2048>, n: usize)
+    requires { n ≤ 2048 }
+    ensures { numbers.new ≡ numbered n numbers.old }
 {
-    let mut k = 0;
-    for b in types {
-        if let Some(ty) = Type::from_number(*b) {
-            values.push(Some(ValueData { ty, def: def.at(k) }));
-            k += 1;
-        }
-    }
-    k
+    numbers.extend((numbers.len()..n).map(|v| Value(v as u16)));
 }
 
-// The next `n` values, each with its number.
-fn push_numbers(numbers: &mut Table<Value, 2048>, n: usize)
-    ensures { cells numbers.new ≡ push_numbers n (cells numbers.old) }
-{
-    for _k in 0..n {
-        let v = numbers.len();
-        numbers.push(Value(v as u16));
-    }
-}
-
-// The values that words name.
-fn push_words(uses: &mut Table<Value, 4096>, words: &[u8])
-    ensures { cells uses.new ≡ pushed_all 4096 (words_of words.now) (cells uses.old) }
-{
-    for k in 0..words.len() / 2 {
-        uses.push(Value(words[2 * k] as u16 + 256 * words[2 * k + 1] as u16));
-    }
-}
-
-// What is kept of an instruction's destinations.
-#[derive(Clone, Copy)]
+// What is kept of an instruction's destinations: how many they are, and the first two.
+#[derive(Drop)]
 struct Kept {
     count: usize,
-    first: Option<DestData>,
-    second: Option<DestData>,
+    places: Table<Option<DestData>, 2>,
 }
 
-impl Kept {
-    fn add(&mut self, row: DestData)
-        requires { self.old.count + 1 < 2 ^ 64 }
-        ensures { self.new ≡ kept_more self.old row }
-    {
-        if self.count == 0 {
-            self.first = Some(row);
-        }
-        if self.count == 1 {
-            self.second = Some(row);
-        }
-        self.count += 1;
-    }
-}
-
-// The arguments of destinations.
+// The arguments of destinations, and what is kept of them. Counted by hand, since the same pass stores the arguments.
 fn push_destinations(uses: &mut Table<Value, 4096>, destinations: Destinations) -> Kept
-    ensures kept { KeptOf result (placed (destinations_of destinations.entry) (cells uses.old)) }
-    ensures pushed { cells uses.new ≡ pushed_all 4096 (flat_map (λ d. d.args) (destinations_of destinations.entry)) (cells uses.old) }
+    ensures kept { KeptOf result (placed (destinations_of destinations.entry) uses.old) }
+    ensures pushed { uses.new ≡ pushed_all 4096 (flat_map (λ d. d.args) (destinations_of destinations.entry)) uses.old }
 {
-    let mut rest = destinations;
-    let mut seen = Kept {
+    let mut kept = Kept {
         count: 0,
-        first: None,
-        second: None,
+        places: Table::new(None),
     };
-    while let Some(d) = rest.next() {
-        let row = DestData {
+    for d in destinations {
+        kept.count += 1;
+        kept.places.push(Some(DestData {
             target: d.target,
             first_arg: uses.len(),
-            args: d.args.len() / 2,
-        };
-        push_words(uses, d.args);
-        seen.add(row);
+            args: d.args.len(),
+        }));
+        uses.extend(d.args);
     }
-    seen
+    kept
 }
 
-// Everything that an instruction uses.
-fn push_uses(uses: &mut Table<Value, 4096>, operands: &[u8], destinations: Destinations) -> Kept
-    ensures kept { KeptOf result (placed (destinations_of destinations.entry) (pushed_all 4096 (words_of operands.now) (cells uses.old))) }
-    ensures pushed { cells uses.new ≡ pushed_all 4096 (words_of operands.now ++ flat_map (λ d. d.args) (destinations_of destinations.entry)) (cells uses.old) }
-{
-    push_words(uses, operands);
-    push_destinations(uses, destinations)
-}
-
-// The two places of a block, once its last instruction is there.
+// The two places of a block's last instruction. A function of its own: with the `if` inside
+// `store_inst`, the proof that the row has the table's lengths does not close behind it.
 fn push_places(
-    places: &mut Table<Option<DestData>, 128>,
+    destinations: &mut Table<Option<DestData>, 128>,
     last: bool,
-    first: Option<DestData>,
-    second: Option<DestData>,
+    places: &Table<Option<DestData>, 2>,
 )
-    ensures { cells places.new ≡ pushed_all 128 (two_of last first second) (cells places.old) }
+    ensures { destinations.new ≡ pushed_all 128 (cond last places.now.rows []) destinations.old }
 {
     if last {
-        places.push(first);
-        places.push(second);
+        destinations.extend(places.rows().iter().copied());
     }
 }
 
 // Notes an entry at a place that has none yet.
 fn note<const N: usize>(entries: &mut Table<Option<usize>, N>, i: usize, e: usize)
-    ensures { cells entries.new ≡ noted i e (cells entries.old) }
+    ensures { entries.new ≡ noted i e entries.old }
 {
-    if entries.read(i, None).is_none() {
-        entries.write(i, Some(e));
-    }
-}
-
-fn note_block(entries: &mut Table<Option<usize>, 64>, x: Entry, e: usize)
-    ensures { cells entries.new ≡ noted_block x e (cells entries.old) }
-{
-    if let Entry::Block(b) = x {
-        note(entries, b.index(), e);
-    }
-}
-
-fn note_edge(entries: &mut Table<Option<usize>, 128>, x: Entry, e: usize)
-    ensures { cells entries.new ≡ noted_edge x e (cells entries.old) }
-{
-    if let Entry::Edge(b, k) = x {
-        if k < 2 {
-            note(entries, 2 * b.index() + k as usize, e);
-        }
-    }
+    entries.write(i, entries.read(i, None).or(Some(e)));
 }
 
 impl Tables {
     pub(crate) fn store_block(&mut self, b: BlockRecord)
-        ensures { view self.new ≡ store_block (types_of b.entry.params.now) b.entry.insts (view self.old) }
+        ensures { self.new ≡ store_block (types_in b.entry.params) b.entry.insts self.old }
     {
         let block = Block(self.blocks.len() as u16);
-        let first_param = self.values.len();
-        let first_inst = self.insts.len();
-        let params = push_values(&mut self.values, b.params, ValueDef::Param(block, 0));
-        push_numbers(&mut self.numbers, params);
-        self.blocks.push(Some(BlockData {
-            first_param,
-            params,
-            first_inst,
-            insts: b.insts as usize,
-        }));
+        let row = BlockData {
+            first_param: self.values.len(),
+            params: b.params.len(),
+            first_inst: self.insts.len(),
+            insts: usize::from(b.insts),
+        };
+        self.values.extend(
+            b.params.enumerate().map(|(k, ty)| {
+                let def = ValueDef::Param(block, k);
+                Some(ValueData { ty, def })
+            }),
+        );
+        number(&mut self.numbers, self.values.len());
+        self.blocks.push(Some(row));
     }
 
     pub(crate) fn store_inst(&mut self, x: InstRecord, last: bool)
-        ensures { view self.new ≡ store_inst last (instruction_of x.entry) (view self.old) }
+        ensures { self.new ≡ store_inst last (instruction_of x.entry) self.old }
     {
         let block = Block(self.blocks.len().saturating_sub(1) as u16);
         let inst = Inst(self.insts.len() as u16);
         let first_use = self.uses.len();
         let first_result = self.values.len();
-        let results = push_values(&mut self.values, x.results, ValueDef::Result(inst, 0));
-        push_numbers(&mut self.numbers, results);
-        let kept = push_uses(&mut self.uses, x.operands, x.destinations);
-        push_places(&mut self.destinations, last, kept.first, kept.second);
+        let results = x.results.len();
+        // As in `store_block`, but for what defines the values: one function for both would take a closure, and is no shorter.
+        self.values.extend(
+            x.results.enumerate().map(|(k, ty)| {
+                let def = ValueDef::Result(inst, k);
+                Some(ValueData { ty, def })
+            }),
+        );
+        number(&mut self.numbers, self.values.len());
+        self.uses.extend(x.operands);
+        let kept = push_destinations(&mut self.uses, x.destinations);
+        push_places(&mut self.destinations, last, &kept.places);
         self.insts.push(Some(InstData {
             block,
             last,
             opcode: x.opcode,
             first_use,
-            operands: x.operands.len() / 2,
+            operands: x.operands.len(),
             uses: self.uses.len().saturating_sub(first_use),
             first_result,
             results,
@@ -202,43 +126,17 @@ impl Tables {
     }
 
     pub(crate) fn store_entry(&mut self, x: Entry)
-        ensures { view self.new ≡ store_entry x (view self.old) }
+        ensures { self.new ≡ store_entry x self.old }
     {
         let e = self.order.len();
-        note_block(&mut self.block_entries, x, e);
-        note_edge(&mut self.edge_entries, x, e);
         self.order.push(Some(x));
-    }
-
-    // Tables of nothing.
-    pub fn new() -> Tables
-        ensures { view result ≡ zero_store }
-    {
-        Tables {
-            blocks: Table::new(None),
-            insts: Table::new(None),
-            values: Table::new(None),
-            numbers: Table::new(Value(0)),
-            uses: Table::new(Value(0)),
-            destinations: Table::new(None),
-            order: Table::new(None),
-            block_entries: Table::new(None),
-            edge_entries: Table::new(None),
+        match x {
+            Entry::Block(b) => note(&mut self.block_entries, b.index(), e),
+            Entry::Edge(b, k) => {
+                if let Some(i) = edge_place(b, usize::from(k)) {
+                    note(&mut self.edge_entries, i, e);
+                }
+            }
         }
-    }
-
-    // Makes every table zero.
-    pub fn clear(&mut self)
-        ensures { view self.new ≡ zero_store }
-    {
-        self.blocks = Table::new(None);
-        self.insts = Table::new(None);
-        self.values = Table::new(None);
-        self.numbers = Table::new(Value(0));
-        self.uses = Table::new(Value(0));
-        self.destinations = Table::new(None);
-        self.order = Table::new(None);
-        self.block_entries = Table::new(None);
-        self.edge_entries = Table::new(None);
     }
 }

@@ -2,7 +2,6 @@
 #![tactic(auto)]
 
 pub mod answers;
-pub mod cells;
 pub mod fill;
 pub mod function;
 pub mod inst_predicates;

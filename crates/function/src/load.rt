@@ -1,7 +1,7 @@
 // Reads a whole file into the tables.
 ghost use Rattle.std.specs.Prelude.{◌≡◌};
 ghost use Rattle.function.specs.Filling.{store_record, stored_file, answered};
-ghost use Rattle.function.specs.Holding.{view, Filled};
+ghost use Rattle.function.specs.Holding.{Filled};
 ghost use Rattle.reader.specs.Laws.{FormatLaw};
 
 use crate::tables::Tables;
@@ -11,7 +11,7 @@ use reader::records::Record;
 
 impl Tables {
     fn store(&mut self, item: Record, last: bool)
-        ensures { view self.new ≡ store_record item.entry last (view self.old) }
+        ensures { self.new ≡ store_record item.entry last self.old }
     {
         match item {
             Record::Block(b) => self.store_block(b),
@@ -21,7 +21,7 @@ impl Tables {
     }
 
     fn store_file(&mut self, file: &[u8]) -> Result<(), Refusal>
-        ensures stored { stored_file file.now (view self.old) ≡ answered result (view self.new) }
+        ensures stored { stored_file file.now self.old ≡ answered result self.new }
         ensures law { FormatLaw file.now }
     {
         let mut reader = Reader::new(file)?;

@@ -1,4 +1,4 @@
-// The rows of the tables.
+// The rows of the tables. Where a list stands is said by its first place and its length: a `Range` is not `Copy`.
 use clif::entities::{Block, Inst};
 use clif::opcodes::Opcode;
 use clif::types::Type;
@@ -39,7 +39,7 @@ pub struct DestData {
 }
 
 // What defines a value: a parameter of a block or a result of an instruction, by index.
-#[derive(Clone, Copy)]
+#[derive(Clone, Copy, PartialEq, Eq, Debug)]
 pub enum ValueDef {
     Param(Block, usize),
     Result(Inst, usize),

@@ -1,28 +1,14 @@
 -- A loop that reads n things of one form.
-use Rattle.std.proofs.Common.{◌≡◌, ℕ, zero, suc, ◌+◌, ◌-◌, ◌<◌, ◌≤◌, List, [], ◌∷◌, ◌++◌, length, IfSome, Some, None, Ok, Err, Option, Result, sym, refl, ap, ◌∙◌, arith}
+use Rattle.std.proofs.Common.{◌≡◌, ℕ, zero, suc, ◌+◌, ◌-◌, ◌<◌, ◌≤◌, List, [], ◌∷◌, ◌++◌, length, sym, refl, ap, ◌∙◌, arith}
 use Rattle.std.proofs.lemmas.List.{append_assoc}
-use Rattle.reader.specs.Reading.{Reads, Spot, Read, got, fault, after, repeated, destination}
-use Rattle.clif.specs.declared.refusals.Refusal.{Refusal}
+use Rattle.reader.specs.Reading.{Reads, Spot, Read, got, fault, after, repeated}
 use Rattle.reader.specs.Parts.{several}
-use Rattle.reader.specs.Records.{destination_of, next_destination}
-use Rattle.reader.specs.Told.{spot, told}
-use Rattle.reader.specs.declared.fields.Fields.{Fields}
-use Rattle.reader.specs.declared.records.DestRecord.{DestRecord}
-use Rattle.std.specs.Result.{result_ok}
-
--- nothing is done after a reading
-pub after_got : {A : Type 0} (r : Read A) → after r (λ a t. got a t) ≡ r
-after_got (got a t) = refl
-after_got (fault n p) = refl
 
 module _ {A : Type 0} (p : Reads A) (size : ℕ) where
   -- k of n things are read: `front`, and the rest from t
   pub record Went (n k : ℕ) (s t : Spot) : Type 0 where
     pub front : List A
     pub left : repeated n p size s ≡ after (repeated (n - k) p size t) (λ more u. got (front ++ more) u)
-
-  pub went_start : (n : ℕ) (s : Spot) → Went n 0 s s
-  went_start n s = record { front = []; left = let e : n - 0 ≡ n = omega arith in rw e (sym (after_got (repeated n p size s))) }
 
   step : (m : ℕ) (front : List A) (a : A) (t u : Spot) → p size t ≡ got a u
       → after (repeated (suc m) p size t) (λ more v. got (front ++ more) v) ≡ after (repeated m p size u) (λ more v. got ((front ++ a ∷ []) ++ more) v)
@@ -60,17 +46,6 @@ module _ {A : Type 0} (p : Reads A) (size : ℕ) where
       let d : n - k ≡ 0 = omega arith in
       let e : repeated n p size s ≡ got (w.front ++ []) t = w.left ∙ rw d in
       ap (λ xs. got xs t) (several_all n s t (w.front ++ []) e) ∙ sym e
-
--- one destination more is handed out
-pub next_told : (n : ℕ) (x y : Fields) (r : Result DestRecord Refusal) → (n ≡ 0 → ⊥) → told destination_of r (spot y) ≡ destination x.size (spot x) → y.size ≡ x.size
-    → several n destination x.size (spot x) ≡ next_destination (result_ok r) (record { left = n - 1; fields = y })
-next_told zero x y r h t e = absurd (h refl)
-next_told (suc m) x y (Ok d) h t e = let k : suc m - 1 ≡ m = omega arith in rw (k, ← t, several, e)
-next_told (suc m) x y (Err d) h t e = rw (← t, several)
-
-pub next_falls : (n : ℕ) (o : Option DestRecord) → (n ≡ 0 → ⊥) → IfSome o (λ _. n - 1 < n)
-next_falls n None h = tt
-next_falls n (Some d) h = omega arith
 
 -- what a reading that went through went through
 pub after_back : {A B : Type 0} (r : Read A) (k : A → Spot → Read B) (b : B) (t : Spot) → after r k ≡ got b t → (a : A) × (u : Spot) × (r ≡ got a u) × (k a u ≡ got b t)

@@ -42,6 +42,10 @@ abbrev pub ◌>>=◌ : {A B : Type 0} → Reads A → (A → Reads B) → Reads 
 abbrev pub give : {A : Type 0} → A → Reads A
 give a size s = got a s
 
+-- a reading, with the place of its first byte
+abbrev pub here : {A : Type 0} → Reads A → Reads (ℕ × A)
+here p size s = after (p size s) (λ a t. got (place size s, a) t)
+
 -- the number that some bytes are, lowest first
 abbrev pub number_of : List ℕ → ℕ
 number_of [] = 0

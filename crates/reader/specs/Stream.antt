@@ -1,12 +1,11 @@
 -- A file as a sequence of records: what is left of it, and what a record adds.
-use Rattle.std.specs.Prelude.{◌≡◌, ℕ, ◌+◌, ◌-◌, ◌*◌, List, [], ◌∷◌, length, Some, None, Ok, Err, Option, Result}
+use Rattle.std.specs.Prelude.{◌≡◌, ℕ, ◌+◌, ◌-◌, ◌*◌, ◌<◌, List, [], ◌∷◌, length, Some, None, Ok, Err, Option, Result, IfOk, OnSome}
 use Rattle.clif.specs.Refusals.{refusal_number, refusal_place}
 use Rattle.clif.specs.declared.entities.Entry.{Entry}
 use Rattle.clif.specs.declared.refusals.Refusal.{Refusal}
 use Rattle.reader.specs.Data.{Instruction, Body, Func}
-use Rattle.reader.specs.Parts.{types_of}
 use Rattle.reader.specs.Reading.{Reads, Spot, place, Outcome, done, refused, ended, give, ◌>>=◌, repeated, instruction, body, count, order_entry}
-use Rattle.reader.specs.Records.{instruction_of}
+use Rattle.reader.specs.Records.{types_in, instruction_of}
 use Rattle.reader.specs.Told.{spot}
 use Rattle.reader.specs.declared.reader.Reader.{Reader}
 use Rattle.reader.specs.declared.totals.Kind.TheVariants.{Entries}
@@ -43,7 +42,7 @@ mapped_outcome f (refused n p) = refused n p
 
 -- a record put in front: a block takes the instructions that follow it
 abbrev pub added : Record → Tail → Tail
-added (Block b) t = record { insts = []; blocks = record { params = types_of b.params.now; insts = t.insts } ∷ t.blocks; order = t.order }
+added (Block b) t = record { insts = []; blocks = record { params = types_in b.params; insts = t.insts } ∷ t.blocks; order = t.order }
 added (Inst x) t = record { insts = instruction_of x ∷ t.insts; blocks = t.blocks; order = t.order }
 added (Order o) t = record { insts = t.insts; blocks = t.blocks; order = o.«entry» ∷ t.order }
 
@@ -73,13 +72,6 @@ entries_due (Some n) = n
 abbrev pub due : Reader → ℕ
 due x = x.insts + (65536 * x.blocks + entries_due x.entries)
 
--- only the place in the file may differ
-pub record SameButFields (x y : Reader) : Type 0 where
-  pub size : y.fields.size ≡ x.fields.size
-  pub insts : y.insts ≡ x.insts
-  pub blocks : y.blocks ≡ x.blocks
-  pub entries : y.entries ≡ x.entries
-
 -- after a block's record its instructions are due, and after an entry of the order nothing but entries
 abbrev pub Counts : Option Record → Reader → Type 0
 Counts None y = Unit {0}
@@ -98,3 +90,10 @@ Placed None x = Unit {0}
 Placed (Some (Block b)) x = b.place ≡ place x.fields.size (spot x.fields)
 Placed (Some (Inst i)) x = i.place ≡ place x.fields.size (spot x.fields)
 Placed (Some (Order o)) x = o.place ≡ entry_place x.entries x.fields.size (spot x.fields)
+
+-- a call at x that answered r and left y: what was left, shorter by the record; fewer records to come; what is due then; and the record's place
+pub record Handed (x : Reader) (r : Result (Option Record) Refusal) (y : Reader) : Type 0 where
+  pub hands : left x ≡ handed r (left y)
+  pub falls : IfOk r (λ o. OnSome o (due y < due x))
+  pub counts : IfOk r (λ o. Counts o y)
+  pub placed : IfOk r (λ o. Placed o x)

@@ -1,9 +1,8 @@
 -- What a call of the reader says, as a reading.
-use Rattle.std.specs.Prelude.{◌≡◌, ℕ, ◌<◌, ◌≤◌, List, length, take, drop, Ok, Err, Result}
+use Rattle.std.specs.Prelude.{◌≡◌, Ok, Err, Result}
 use Rattle.clif.specs.Refusals.{refusal_number, refusal_place}
 use Rattle.clif.specs.declared.refusals.Refusal.{Refusal}
-use Rattle.clif.specs.declared.refusals.Refusal.TheVariants.{Unreadable}
-use Rattle.reader.specs.Reading.{Spot, Read, got, fault, place}
+use Rattle.reader.specs.Reading.{Spot, Reads, Read, got, fault}
 use Rattle.reader.specs.declared.fields.Fields.{Fields}
 
 -- where a reader stands
@@ -15,13 +14,7 @@ abbrev pub told : {B X : Type 0} → (B → X) → Result B Refusal → Spot →
 told f (Ok b) s = got (f b) s
 told f (Err e) s = fault (refusal_number e) (refusal_place e)
 
--- k bytes taken off the front, or too few left for that
-pub record Taken (k : ℕ) (x y : Fields) (bytes : List ℕ) : Type 0 where
-  pub enough : k ≤ length x.rest.now
-  pub front : bytes ≡ take k x.rest.now
-  pub rest : y.rest.now ≡ drop k x.rest.now
-  pub totals : y.totals ≡ x.totals
-
-pub record Cut (k : ℕ) (x : Fields) (e : Refusal) : Type 0 where
-  pub few : length x.rest.now < k
-  pub says : e ≡ Unreadable (place x.size (spot x))
+-- a call that reads as p: its answer and where the reader then stands are what p gives, in the same file
+pub record ReadAs {B X : Type 0} (f : B → X) (p : Reads X) (x : Fields) (r : Result B Refusal) (y : Fields) : Type 0 where
+  pub tells : told f r (spot y) ≡ p x.size (spot x)
+  pub size : y.size ≡ x.size

@@ -1,11 +1,14 @@
 // The fields of a file, each a number of one or more bytes.
-ghost use Rattle.std.specs.Prelude.{◌≡◌, ℕ, ◌≤◌, Bool, length, take, MatchResult};
+ghost use Rattle.std.specs.Prelude.{◌≡◌, ℕ, ◌<◌, Bool, Option, option_map};
 ghost use Rattle.clif.specs.Rows.{opcode_of};
-ghost use Rattle.reader.specs.Reading.{number, ranged as ranged_field, named, flag_of, number_of, admitted, count};
+ghost use Rattle.clif.specs.declared.entities.Block.{Block};
+ghost use Rattle.clif.specs.declared.opcodes.Opcode.{Opcode};
+ghost use Rattle.reader.specs.Reading.{Reads, number, number_of, ranged as ranged_field, named, flag_of, admitted, count, target, present, standing};
 ghost use Rattle.reader.specs.Reading.{place as place_of};
-ghost use Rattle.reader.specs.Told.{spot, told, Taken, Cut};
+ghost use Rattle.reader.specs.Told.{spot, ReadAs};
 
 use crate::totals::{Kind, Totals};
+use clif::entities::Block;
 use clif::opcodes::Opcode;
 use clif::refusals::Refusal;
 
@@ -17,6 +20,20 @@ pub struct Fields<'a> {
     pub(crate) totals: Totals,
 }
 
+// What a file has as one field.
+pub(crate) trait Field<'a>: Copy {
+    ghost Meaning: { Type 0 };
+
+    // What a value stands for.
+    ghost meaning: { Self → Meaning };
+
+    // How the bytes of the field are read.
+    ghost reading: { Reads Meaning };
+
+    fn read(fields: &mut Fields<'a>) -> Result<Self, Refusal>
+        ensures { ReadAs meaning reading fields.old result fields.new };
+}
+
 impl<'a> Fields<'a> {
     // The place of the next byte.
     pub(crate) fn place(&self) -> usize
@@ -25,121 +42,187 @@ impl<'a> Fields<'a> {
         self.size.saturating_sub(self.rest.len())
     }
 
-    pub(crate) fn bytes(&mut self, k: usize) -> Result<&'a [u8], Refusal>
-        ensures takes { MatchResult result (λ b. Taken k self.old self.new b.now) (λ e. Cut k self.old e) }
-        ensures size { self.new.size ≡ self.old.size }
-    {
-        if k > self.rest.len() {
-            return Err(Refusal::Unreadable(self.place()));
-        }
-        let rest = self.rest;
-        self.rest = &rest[k..];
-        Ok(&rest[0..k])
-    }
-
-    pub(crate) fn byte(&mut self) -> Result<u8, Refusal>
-        ensures told { told (λ (n : ℕ). n) result (spot self.new) ≡ number 1 self.old.size (spot self.old) }
-        ensures size { self.new.size ≡ self.old.size }
-    {
-        let b = self.bytes(1)?;
-        Ok(b[0])
-    }
-
-    pub(crate) fn word(&mut self) -> Result<u16, Refusal>
-        ensures told { told (λ (n : ℕ). n) result (spot self.new) ≡ number 2 self.old.size (spot self.old) }
-        ensures size { self.new.size ≡ self.old.size }
-    {
-        let b = self.bytes(2)?;
-        Ok(b[0] as u16 + 256 * b[1] as u16)
-    }
-
     // A byte from `least` to `most`.
     pub(crate) fn ranged(&mut self, least: u8, most: u8) -> Result<u8, Refusal>
-        ensures told { told (λ (n : ℕ). n) result (spot self.new) ≡ ranged_field least most self.old.size (spot self.old) }
-        ensures size { self.new.size ≡ self.old.size }
+        ensures { ReadAs (λ (n : ℕ). n) (ranged_field least most) self.old result self.new }
     {
         let at = self.place();
-        let n = self.byte()?;
-        if least <= n && n <= most {
+        let n = u8::read(self)?;
+        if (least..=most).contains(&n) {
             Ok(n)
         } else {
             Err(Refusal::Unreadable(at))
         }
     }
 
-    pub(crate) fn opcode(&mut self) -> Result<Opcode, Refusal>
-        ensures told { told (λ (o : Opcode). o) result (spot self.new) ≡ named opcode_of self.old.size (spot self.old) }
-        ensures size { self.new.size ≡ self.old.size }
+    // A count, already read at `at`, tested and added to its total.
+    fn admit(&mut self, at: usize, n: usize, least: usize, kind: Kind) -> Result<(), Refusal>
+        ensures { ReadAs (λ _. n) (λ _. admitted at n least kind) self.old result self.new }
     {
-        let at = self.place();
-        Opcode::from_number(self.byte()?).ok_or(Refusal::Unreadable(at))
+        if n < least {
+            return Err(Refusal::Unreadable(at));
+        }
+        self.totals = self.totals.plus(kind, n).ok_or(Refusal::OverLimit(at))?;
+        Ok(())
     }
 
-    pub(crate) fn flag(&mut self) -> Result<bool, Refusal>
-        ensures told { told (λ (b : Bool). b) result (spot self.new) ≡ named flag_of self.old.size (spot self.old) }
-        ensures size { self.new.size ≡ self.old.size }
+    // A count of one byte. Not one function with the next: its contract would ask of a type how many bytes it has.
+    pub(crate) fn short_count(&mut self, least: usize, kind: Kind) -> Result<u8, Refusal>
+        ensures { ReadAs (λ (n : ℕ). n) (count 1 least kind) self.old result self.new }
     {
         let at = self.place();
-        match self.byte()? {
+        let n = u8::read(self)?;
+        self.admit(at, usize::from(n), least, kind)?;
+        Ok(n)
+    }
+
+    // A count of two bytes, at least 1.
+    pub(crate) fn count(&mut self, kind: Kind) -> Result<u16, Refusal>
+        ensures { ReadAs (λ (n : ℕ). n) (count 2 1 kind) self.old result self.new }
+    {
+        let at = self.place();
+        let n = u16::read(self)?;
+        self.admit(at, usize::from(n), 1, kind)?;
+        Ok(n)
+    }
+
+    // A field that stands only where its bit of the map byte does; what else it is then.
+    pub(crate) fn standing<T: Field<'a>>(
+        &mut self,
+        map: u8,
+        bit: u8,
+        absent: T,
+    ) -> Result<T, Refusal>
+        requires { 0 < bit }
+        ensures { ReadAs T.meaning (standing map bit (T.meaning absent) T.reading) self.old result self.new }
+    {
+        if map / bit % 2 == 1 {
+            T::read(self)
+        } else {
+            Ok(absent)
+        }
+    }
+}
+
+// The number that `K` bytes are.
+impl<'a, const K: usize> Field<'a> for [u8; K] {
+    ghost Meaning = { ℕ };
+
+    ghost meaning = { number_of };
+
+    ghost reading = { number K };
+
+    fn read(fields: &mut Fields<'a>) -> Result<[u8; K], Refusal> {
+        match fields.rest.split_first_chunk() {
+            Some((front, rest)) => {
+                fields.rest = rest;
+                Ok(*front)
+            }
+            None => Err(Refusal::Unreadable(fields.place())),
+        }
+    }
+}
+
+// Numbers of one to eight bytes: an impl for each, since no macro may write a ghost member.
+impl<'a> Field<'a> for u8 {
+    ghost Meaning = { ℕ };
+
+    ghost meaning = { λ n. n };
+
+    ghost reading = { number 1 };
+
+    fn read(fields: &mut Fields<'a>) -> Result<u8, Refusal> {
+        Ok(u8::from_le_bytes(Field::read(fields)?))
+    }
+}
+
+impl<'a> Field<'a> for u16 {
+    ghost Meaning = { ℕ };
+
+    ghost meaning = { λ n. n };
+
+    ghost reading = { number 2 };
+
+    fn read(fields: &mut Fields<'a>) -> Result<u16, Refusal> {
+        Ok(u16::from_le_bytes(Field::read(fields)?))
+    }
+}
+
+impl<'a> Field<'a> for u32 {
+    ghost Meaning = { ℕ };
+
+    ghost meaning = { λ n. n };
+
+    ghost reading = { number 4 };
+
+    fn read(fields: &mut Fields<'a>) -> Result<u32, Refusal> {
+        Ok(u32::from_le_bytes(Field::read(fields)?))
+    }
+}
+
+impl<'a> Field<'a> for u64 {
+    ghost Meaning = { ℕ };
+
+    ghost meaning = { λ n. n };
+
+    ghost reading = { number 8 };
+
+    fn read(fields: &mut Fields<'a>) -> Result<u64, Refusal> {
+        Ok(u64::from_le_bytes(Field::read(fields)?))
+    }
+}
+
+impl<'a> Field<'a> for Block {
+    ghost Meaning = { Block };
+
+    ghost meaning = { λ b. b };
+
+    ghost reading = { target };
+
+    fn read(fields: &mut Fields<'a>) -> Result<Block, Refusal> {
+        Ok(Block(u16::read(fields)?))
+    }
+}
+
+impl<'a> Field<'a> for Opcode {
+    ghost Meaning = { Opcode };
+
+    ghost meaning = { λ o. o };
+
+    ghost reading = { named opcode_of };
+
+    fn read(fields: &mut Fields<'a>) -> Result<Opcode, Refusal> {
+        let at = fields.place();
+        Opcode::try_from(u8::read(fields)?).map_err(|_| Refusal::Unreadable(at))
+    }
+}
+
+// As an opcode is read, but `bool` has no `TryFrom<u8>`.
+impl<'a> Field<'a> for bool {
+    ghost Meaning = { Bool };
+
+    ghost meaning = { λ b. b };
+
+    ghost reading = { named flag_of };
+
+    fn read(fields: &mut Fields<'a>) -> Result<bool, Refusal> {
+        let at = fields.place();
+        match u8::read(fields)? {
             0 => Ok(false),
             1 => Ok(true),
             _ => Err(Refusal::Unreadable(at)),
         }
     }
-
-    pub(crate) fn long(&mut self) -> Result<u32, Refusal>
-        ensures told { told (λ (n : ℕ). n) result (spot self.new) ≡ number 4 self.old.size (spot self.old) }
-        ensures size { self.new.size ≡ self.old.size }
-    {
-        let b = self.bytes(4)?;
-        Ok(low_four(b))
-    }
-
-    pub(crate) fn quad(&mut self) -> Result<u64, Refusal>
-        ensures told { told (λ (n : ℕ). n) result (spot self.new) ≡ number 8 self.old.size (spot self.old) }
-        ensures size { self.new.size ≡ self.old.size }
-    {
-        let b = self.bytes(8)?;
-        Ok(low_four(b) as u64 + 4294967296 * low_four(&b[4..]) as u64)
-    }
-
-    // A count, already read at `at`, tested and added to its total.
-    pub(crate) fn admit(
-        &mut self,
-        at: usize,
-        n: usize,
-        least: usize,
-        kind: Kind,
-    ) -> Result<usize, Refusal>
-        ensures told { told (λ (n : ℕ). n) result (spot self.new) ≡ admitted at n least kind (spot self.old) }
-        ensures size { self.new.size ≡ self.old.size }
-    {
-        if n < least {
-            return Err(Refusal::Unreadable(at));
-        }
-        if n > self.totals.room(kind) {
-            return Err(Refusal::OverLimit(at));
-        }
-        self.totals = self.totals.plus(kind, n);
-        Ok(n)
-    }
-
-    // A count of two bytes, at least 1.
-    pub(crate) fn counted(&mut self, kind: Kind) -> Result<u16, Refusal>
-        ensures told { told (λ (n : ℕ). n) result (spot self.new) ≡ count 2 1 kind self.old.size (spot self.old) }
-        ensures size { self.new.size ≡ self.old.size }
-    {
-        let at = self.place();
-        let n = self.word()?;
-        self.admit(at, n as usize, 1, kind)?;
-        Ok(n)
-    }
 }
 
-// The number of the first four of at least four bytes, lowest first.
-fn low_four(b: &[u8]) -> u32
-    requires { 4 ≤ length b.now }
-    ensures { result ≡ number_of (take 4 b.now) }
-{
-    b[0] as u32 + 256 * b[1] as u32 + 65536 * b[2] as u32 + 16777216 * b[3] as u32
+impl<'a, T: Field<'a>> Field<'a> for Option<T> {
+    ghost Meaning = { Option T.Meaning };
+
+    ghost meaning = { option_map T.meaning };
+
+    ghost reading = { present T.reading };
+
+    fn read(fields: &mut Fields<'a>) -> Result<Option<T>, Refusal> {
+        Ok(Some(T::read(fields)?))
+    }
 }

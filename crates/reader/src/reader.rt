@@ -1,12 +1,12 @@
 // The reader: hands out the records of a file one by one.
-ghost use Rattle.std.specs.Prelude.{◌≡◌, ℕ, ◌<◌, IfOk, OnSome, ◌==◌};
+ghost use Rattle.std.specs.Prelude.{◌≡◌, ℕ, ◌<◌, IfOk, ◌==◌};
 ghost use Rattle.reader.specs.Laws.{FormatLaw};
-ghost use Rattle.reader.specs.Reading.{Bytes, read, ended, got};
-ghost use Rattle.reader.specs.Stream.{begun, left, handed, nothing_left, due, due_count, SameButFields, Counts, Placed};
-ghost use Rattle.reader.specs.Told.{spot, told};
+ghost use Rattle.reader.specs.Reading.{read};
+ghost use Rattle.reader.specs.Stream.{begun, due_count, Handed};
+ghost use Rattle.reader.specs.Told.{ReadAs};
 
-use crate::fields::Fields;
-use crate::records::Record;
+use crate::fields::{Field, Fields};
+use crate::records::{BlockRecord, InstRecord, OrderRecord, Record};
 use crate::totals::{Kind, Totals};
 use clif::refusals::Refusal;
 
@@ -20,11 +20,16 @@ pub struct Reader<'a> {
     pub(crate) entries: Option<u16>,
 }
 
-// What a byte is, said of a whole file.
-fn witness(file: &[u8]) -> u8
-    ensures { Bytes file.now }
-{
-    if file.is_empty() { 0 } else { file[0] }
+impl<'a> Fields<'a> {
+    // How many entries are due; reads their count the first time.
+    fn entries_due(&mut self, known: Option<u16>) -> Result<u16, Refusal>
+        ensures { ReadAs (λ (n : ℕ). n) (due_count known) self.old result self.new }
+    {
+        match known {
+            Some(n) => Ok(n),
+            None => self.count(Kind::Entries),
+        }
+    }
 }
 
 impl<'a> Reader<'a> {
@@ -34,20 +39,12 @@ impl<'a> Reader<'a> {
         ensures law { FormatLaw file.now }
         ensures fresh { IfOk result (λ x. x.insts ≡ 0) }
     {
-        witness(file);
-        let none = Totals {
-            blocks: 0,
-            insts: 0,
-            values: 0,
-            operands: 0,
-            entries: 0,
-        };
         let mut fields = Fields {
             size: file.len(),
             rest: file,
-            totals: none,
+            totals: Totals::default(),
         };
-        let blocks = fields.counted(Kind::Blocks)?;
+        let blocks = fields.count(Kind::Blocks)?;
         Ok(Reader {
             fields,
             insts: 0,
@@ -56,86 +53,34 @@ impl<'a> Reader<'a> {
         })
     }
 
-    fn next_inst(&mut self) -> Result<Option<Record<'a>>, Refusal>
-        requires { 0 < self.old.insts }
-        ensures hands { left self.old ≡ handed result (left self.new) }
-        ensures falls { IfOk result (λ o. OnSome o (due self.new < due self.old)) }
-        ensures counts { IfOk result (λ o. Counts o self.new) }
-        ensures placed { IfOk result (λ o. Placed o self.old) }
+    // The next record; none at the end of the file. No `Iterator`: a refusal would be an item like
+    // the records, and a loop over it could not ask `at_block_end` in between.
+    pub fn next(&mut self) -> Result<Option<Record<'a>>, Refusal>
+        ensures { Handed self.old result self.new }
     {
-        let inst = self.fields.instruction()?;
-        self.insts -= 1;
-        Ok(Some(Record::Inst(inst)))
-    }
-
-    fn next_block(&mut self) -> Result<Option<Record<'a>>, Refusal>
-        requires { (self.old.insts ≡ 0) × (0 < self.old.blocks) }
-        ensures hands { left self.old ≡ handed result (left self.new) }
-        ensures falls { IfOk result (λ o. OnSome o (due self.new < due self.old)) }
-        ensures counts { IfOk result (λ o. Counts o self.new) }
-        ensures placed { IfOk result (λ o. Placed o self.old) }
-    {
-        let block = self.fields.heading()?;
-        self.blocks -= 1;
-        self.insts = block.insts;
-        Ok(Some(Record::Block(block)))
-    }
-
-    // How many entries are due; reads their count the first time.
-    fn entries_due(&mut self) -> Result<u16, Refusal>
-        ensures told { told (λ (n : ℕ). n) result (spot self.new.fields) ≡ due_count self.old.entries self.old.fields.size (spot self.old.fields) }
-        ensures same { SameButFields self.old self.new }
-    {
-        match self.entries {
-            Some(n) => Ok(n),
-            None => self.fields.counted(Kind::Entries),
+        if self.insts > 0 {
+            let inst = InstRecord::read(&mut self.fields)?;
+            self.insts -= 1;
+            return Ok(Some(Record::Inst(inst)));
         }
-    }
-
-    fn next_entry(&mut self) -> Result<Option<Record<'a>>, Refusal>
-        requires { (self.old.insts ≡ 0) × (self.old.blocks ≡ 0) }
-        ensures hands { left self.old ≡ handed result (left self.new) }
-        ensures falls { IfOk result (λ o. OnSome o (due self.new < due self.old)) }
-        ensures counts { IfOk result (λ o. Counts o self.new) }
-        ensures placed { IfOk result (λ o. Placed o self.old) }
-    {
-        let count = self.entries_due()?;
-        if count == 0 {
-            return self.finish();
+        if self.blocks > 0 {
+            let block = BlockRecord::read(&mut self.fields)?;
+            self.blocks -= 1;
+            self.insts = block.insts;
+            return Ok(Some(Record::Block(block)));
         }
-        let order = self.fields.order_entry()?;
-        self.entries = Some(count - 1);
-        Ok(Some(Record::Order(order)))
-    }
-
-    // Nothing may follow the last entry.
-    fn finish(&mut self) -> Result<Option<Record<'a>>, Refusal>
-        ensures hands { ended self.old.fields.size (got nothing_left (spot self.old.fields)) ≡ handed result (left self.new) }
-        ensures falls { IfOk result (λ o. OnSome o (due self.new < due self.old)) }
-        ensures counts { IfOk result (λ o. Counts o self.new) }
-        ensures placed { IfOk result (λ o. Placed o self.old) }
-    {
+        let count = self.fields.entries_due(self.entries)?;
+        if count > 0 {
+            let order = OrderRecord::read(&mut self.fields)?;
+            self.entries = Some(count - 1);
+            return Ok(Some(Record::Order(order)));
+        }
+        // Nothing may follow the last entry.
         if self.fields.rest.is_empty() {
             Ok(None)
         } else {
             Err(Refusal::Unreadable(self.fields.place()))
         }
-    }
-
-    // The next record; none at the end of the file.
-    pub fn next(&mut self) -> Result<Option<Record<'a>>, Refusal>
-        ensures hands { left self.old ≡ handed result (left self.new) }
-        ensures falls { IfOk result (λ o. OnSome o (due self.new < due self.old)) }
-        ensures counts { IfOk result (λ o. Counts o self.new) }
-        ensures placed { IfOk result (λ o. Placed o self.old) }
-    {
-        if self.insts > 0 {
-            return self.next_inst();
-        }
-        if self.blocks > 0 {
-            return self.next_block();
-        }
-        self.next_entry()
     }
 
     // Whether no further instruction of the block at hand comes.

@@ -1,5 +1,5 @@
 // How many of each kind of thing the counts of a file promised so far.
-ghost use Rattle.std.specs.Prelude.{◌≡◌, ◌-◌, ◌≤◌};
+ghost use Rattle.std.specs.Prelude.{◌≡◌, ◌-◌, cond, nat_le, Some, None};
 ghost use Rattle.reader.specs.Data.{limit};
 ghost use Rattle.reader.specs.Reading.{total, raised};
 
@@ -12,7 +12,7 @@ pub enum Kind {
     Entries,
 }
 
-#[derive(Clone, Copy)]
+#[derive(Clone, Copy, Default)]
 pub struct Totals {
     pub blocks: usize,
     pub insts: usize,
@@ -21,45 +21,51 @@ pub struct Totals {
     pub entries: usize,
 }
 
+impl Kind {
+    // At most how many of a kind a file may have.
+    fn limit(self) -> usize
+        ensures { result ≡ limit self }
+    {
+        match self {
+            Kind::Blocks => 64,
+            Kind::Insts => 1024,
+            Kind::Values => 2048,
+            Kind::Operands => 4096,
+            Kind::Entries => 128,
+        }
+    }
+}
+
 impl Totals {
-    // How many more of a kind there may be.
-    pub(crate) fn room(self, kind: Kind) -> usize
-        ensures { result ≡ limit kind - total kind self }
+    // By a `match`, as what it reads stands in fields: an array by kind would name none of them.
+    fn of(self, kind: Kind) -> usize
+        ensures { result ≡ total kind self }
     {
         match kind {
-            Kind::Blocks => 64usize.saturating_sub(self.blocks),
-            Kind::Insts => 1024usize.saturating_sub(self.insts),
-            Kind::Values => 2048usize.saturating_sub(self.values),
-            Kind::Operands => 4096usize.saturating_sub(self.operands),
-            Kind::Entries => 128usize.saturating_sub(self.entries),
+            Kind::Blocks => self.blocks,
+            Kind::Insts => self.insts,
+            Kind::Values => self.values,
+            Kind::Operands => self.operands,
+            Kind::Entries => self.entries,
         }
     }
 
-    pub(crate) fn plus(self, kind: Kind, n: usize) -> Totals
-        requires { n ≤ limit kind - total kind self }
-        ensures { result ≡ raised kind n self }
+    // The totals with `n` more of a kind, if its limit leaves room for them.
+    pub(crate) fn plus(self, kind: Kind, n: usize) -> Option<Totals>
+        ensures { result ≡ cond (nat_le n (limit kind - total kind self)) (Some (raised kind n self)) None }
     {
-        match kind {
-            Kind::Blocks => Totals {
-                blocks: self.blocks + n,
-                ..self
-            },
-            Kind::Insts => Totals {
-                insts: self.insts + n,
-                ..self
-            },
-            Kind::Values => Totals {
-                values: self.values + n,
-                ..self
-            },
-            Kind::Operands => Totals {
-                operands: self.operands + n,
-                ..self
-            },
-            Kind::Entries => Totals {
-                entries: self.entries + n,
-                ..self
-            },
+        if n > kind.limit().saturating_sub(self.of(kind)) {
+            return None;
         }
+        let mut sum = self;
+        // A `&mut` to the total, chosen by a `match`, would say this once, but what is written through it is lost to the proof.
+        match kind {
+            Kind::Blocks => sum.blocks += n,
+            Kind::Insts => sum.insts += n,
+            Kind::Values => sum.values += n,
+            Kind::Operands => sum.operands += n,
+            Kind::Entries => sum.entries += n,
+        }
+        Some(sum)
     }
 }

@@ -8,9 +8,8 @@ use text::shown;
 
 fn print_all(rt: &HostRuntime, list: &[u8]) -> io::Result<()> {
     let mut rest = list;
-    while rest.len() >= 3 {
-        let size = rest[0] as usize + 256 * rest[1] as usize + 65536 * rest[2] as usize;
-        let files = &rest[3..];
+    while let Some(([low, middle, high], files)) = rest.split_first_chunk::<3>() {
+        let size = u32::from_le_bytes([*low, *middle, *high, 0]) as usize;
         let (file, behind) = files.split_at(size.min(files.len()));
         rt.print(shown(rt.alloc(), file)?)?;
         rest = behind;

@@ -1,3 +1,1 @@
-pub mod Places
-pub mod Turned
-pub mod Numbered
+pub mod Filled

@@ -1,15 +1,11 @@
 -- A growing list over lent storage: what it holds, and the room behind that.
-use Rattle.std.specs.Prelude.{◌≡◌, ℕ, ◌+◌, ◌<◌, List, [], ◌∷◌, ◌++◌, length, take, drop, Some, None, Ok, Err, Option, Result, slice_index_or}
+use Rattle.std.specs.Prelude.{◌≡◌, ℕ, ◌+◌, ◌<◌, List, [], ◌∷◌, ◌++◌, length, Some, None, Ok, Err, Option, Result, slice_index_or}
 use Rattle.storage.specs.Reversal.{Reversed}
-use Rattle.storage.specs.declared.lists.PushList.{PushList}
 
 -- the elements held, and what stands in the places that are free
 pub record Held (E : Type 0) : Type 0 where
   pub items : List E
   pub room : List E
-
-abbrev pub held_of : {E : Type 0} → PushList E → Held E
-held_of l = record { items = take l.len l.items.now; room = drop l.len l.items.now }
 
 -- how many elements there is room for in all
 abbrev pub capacity : {E : Type 0} → Held E → ℕ

@@ -1,14 +1,10 @@
 -- A table by number over lent storage.
 use Rattle.std.specs.Prelude.{◌≡◌, ℕ, ◌<◌, ◌≤◌, List, length, replicate, ◌≢◌, slice_index_or, slice_set}
-use Rattle.storage.specs.declared.maps.SecondaryMap.{SecondaryMap}
 
 -- the elements that have a place, and the one of every other number
 pub record Table (E : Type 0) : Type 0 where
   pub elems : List E
   pub default : E
-
-abbrev pub table_of : {E : Type 0} → SecondaryMap E → Table E
-table_of m = record { elems = m.elems.now; default = m.default }
 
 -- the element of a number
 abbrev pub at : {E : Type 0} → Table E → ℕ → E
@@ -18,6 +14,7 @@ at t i = slice_index_or t.elems i t.default
 abbrev pub fresh : {E : Type 0} → ℕ → E → Table E
 fresh n d = record { elems = replicate n d; default = d }
 
+-- what a fresh table is good for: each number has the default
 abbrev pub FreshLaw : {E : Type 0} → ℕ → E → Type 0
 FreshLaw n d = (k : ℕ) → at (fresh n d) k ≡ d
 

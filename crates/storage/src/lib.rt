@@ -1,8 +1,6 @@
 // Storage that the caller lends: growing lists, tables by number, and a reversal in place.
 #![tactic(auto)]
 
-pub mod list;
 pub mod lists;
-pub mod map;
 pub mod maps;
 pub mod reverse;

@@ -5,8 +5,5 @@ ghost use Rattle.storage.specs.Reversal.{Reversed};
 pub fn reverse<E>(items: &mut [E])
     ensures { Reversed items.old items.new }
 {
-    let n = items.len();
-    for i in 0..n / 2 {
-        items.swap(i, n - 1 - i);
-    }
+    items.reverse();
 }

@@ -1,46 +1,8 @@
--- What the parts of a function are called in its text.
-use Rattle.std.specs.Prelude.{ℕ, List, ◌++◌, codes, decimal}
-use Rattle.clif.specs.declared.entities.Block.{Block}
-use Rattle.clif.specs.declared.entities.Entry.{Entry}
-use Rattle.clif.specs.declared.entities.Entry.TheVariants.{Block as to_block, Edge as to_edge}
+-- What is said of a value where it is defined.
+use Rattle.std.specs.Prelude.{ℕ, List, ◌++◌, codes}
+use Rattle.clif.specs.Names.{value_name, type_name}
 use Rattle.clif.specs.declared.entities.Value.{Value}
-use Rattle.clif.specs.declared.opcodes.Opcode.{Opcode}
-use Rattle.clif.specs.declared.opcodes.Opcode.TheVariants.{Iconst, Iadd, Imul, Umulhi, Icmp, UaddOverflow, Load, Store, Call, Jump, Brif, Return, Trap}
 use Rattle.clif.specs.declared.types.«Type».{«Type» as Ty}
-use Rattle.clif.specs.declared.types.«Type».TheVariants.{I8, I16, I32, I64, I128}
 
-abbrev pub value_name : Value → List ℕ
-value_name v = codes "v" ++ decimal v.0
-
-abbrev pub block_name : Block → List ℕ
-block_name b = codes "block" ++ decimal b.0
-
-abbrev pub type_name : Ty → List ℕ
-type_name I8 = codes "i8"
-type_name I16 = codes "i16"
-type_name I32 = codes "i32"
-type_name I64 = codes "i64"
-type_name I128 = codes "i128"
-
-abbrev pub opcode_name : Opcode → List ℕ
-opcode_name Iconst = codes "iconst"
-opcode_name Iadd = codes "iadd"
-opcode_name Imul = codes "imul"
-opcode_name Umulhi = codes "umulhi"
-opcode_name Icmp = codes "icmp"
-opcode_name UaddOverflow = codes "uadd_overflow"
-opcode_name Load = codes "load"
-opcode_name Store = codes "store"
-opcode_name Call = codes "call"
-opcode_name Jump = codes "jump"
-opcode_name Brif = codes "brif"
-opcode_name Return = codes "return"
-opcode_name Trap = codes "trap"
-
-abbrev pub entry_name : Entry → List ℕ
-entry_name (to_block b) = block_name b
-entry_name (to_edge b k) = codes "edge " ++ (decimal b.0 ++ (codes "." ++ decimal k))
-
--- a value where it is defined
 abbrev pub definition : Value → Ty → List ℕ
 definition v t = value_name v ++ (codes ": " ++ type_name t)

@@ -1,13 +1,14 @@
 -- The text for a file: what is said of it.
 use Rattle.std.specs.Prelude.{◌≡◌, ℕ, List, ◌++◌, length, Some, codes, decimal}
 use Rattle.checks.specs.Verdict.{Accepted, first_fault_of}
+use Rattle.clif.specs.Names.{refused_at}
 use Rattle.function.specs.Answers.{all_insts}
 use Rattle.function.specs.Numbering.{value_rows}
 use Rattle.reader.specs.Data.{Func}
 
 -- the line of a refusal, by its number and place
 abbrev pub refusal_line : ℕ → ℕ → List ℕ
-refusal_line n p = codes "refused " ++ (decimal n ++ (codes " at " ++ (decimal p ++ codes "\n")))
+refusal_line n p = refused_at n p ++ codes "\n"
 
 -- the first line of a function's text, by its numbers of blocks, instructions and values
 abbrev pub totals_line : ℕ → ℕ → ℕ → List ℕ

@@ -16,9 +16,7 @@ mod names;
 fn refusal_line(heap: Global, refusal: Refusal) -> Result<String, AllocError>
     ensures { IfOk result (λ s. string_bytes s ≡ refusal_line (refusal_number refusal) (refusal_place refusal)) }
 {
-    let number = refusal.number();
-    let place = refusal.place();
-    format!(in heap; "refused {number} at {place}\n")
+    format!(in heap; "{refusal}\n")
 }
 
 // The whole text for a file: its function, or the refusal.

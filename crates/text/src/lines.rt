@@ -6,7 +6,7 @@ ghost use Rattle.reader.specs.Data.{Func};
 ghost use Rattle.reader.specs.Within.{Within};
 ghost use Rattle.text.specs.Text.{head_line, Begins};
 
-use crate::names::{BlockName, Destination, EntryName, OpcodeName, Typed, ValueName};
+use crate::names::{Destination, Typed, put_list};
 use clif::entities::{Block, Inst, Value};
 use function::function::Function;
 use function::tables::Tables;
@@ -38,30 +38,28 @@ pub struct Instruction<'a> {
 
 impl Display for Definitions<'_> {
     fn fmt<W: Write>(&self, f: &mut Formatter<W>) -> fmt::Result {
-        let mut separator = "";
-        for value in self.values {
-            if let Some(ty) = self.function.value_type(*value) {
-                write!(f, "{separator}{}", Typed { value: *value, ty })?;
-            }
-            separator = ", ";
-        }
-        Ok(())
+        let typed = |value: &Value| {
+            let ty = self.function.value_type(*value)?;
+            Some(Typed { value: *value, ty })
+        };
+        put_list(f, self.values.iter().filter_map(typed))
     }
 }
 
 impl Display for BlockHead<'_> {
     fn fmt<W: Write>(&self, f: &mut Formatter<W>) -> fmt::Result {
         let function = self.function;
-        let name = BlockName(self.block);
+        let block = self.block;
         let values = function.block_params(self.block);
         if values.is_empty() {
-            write!(f, "{name}:")
+            write!(f, "{block}:")
         } else {
-            write!(f, "{name}({}):", Definitions { function, values })
+            write!(f, "{block}({}):", Definitions { function, values })
         }
     }
 }
 
+// Parts that may be missing each have their own `match`: they differ in what is asked, and in what is written.
 impl Instruction<'_> {
     fn put_results<W: Write>(self, f: &mut Formatter<W>) -> fmt::Result {
         let function = self.function;
@@ -75,7 +73,7 @@ impl Instruction<'_> {
 
     fn put_opcode<W: Write>(self, f: &mut Formatter<W>) -> fmt::Result {
         match self.function.opcode(self.inst) {
-            Some(opcode) => write!(f, "{}", OpcodeName(opcode)),
+            Some(opcode) => write!(f, "{opcode}"),
             None => Ok(()),
         }
     }
@@ -95,13 +93,14 @@ impl Instruction<'_> {
         }
     }
 
-    // Operands, then destinations, all in one list.
+    // Operands, then destinations, all in one list. Not `put_list`: its items are of one type.
     fn put_items<W: Write>(self, f: &mut Formatter<W>) -> fmt::Result {
         let mut separator = " ";
         for value in self.function.inst_args(self.inst) {
-            write!(f, "{separator}{}", ValueName(*value))?;
+            write!(f, "{separator}{value}")?;
             separator = ", ";
         }
+        // By number: a function answers for one destination at a time.
         for k in 0..self.function.num_destinations(self.inst) {
             if let Some(call) = self.function.destination(self.block, k) {
                 write!(f, "{separator}{}", Destination(call))?;
@@ -140,12 +139,13 @@ fn entity_number(n: usize) -> u16
 // The number stands in column 32, or behind a text that is longer.
 fn inst_line(heap: Global, inst: Instruction<'_>) -> Result<String, AllocError> {
     let text = format!(in heap; "    {inst}")?;
-    let number = inst.inst.index();
+    let number = inst.inst.0;
     format!(in heap; "{text:<31} ; {number}\n")
 }
 
 fn block_text(heap: Global, function: Function<'_>, block: Block) -> Result<String, AllocError> {
     let mut text = format!(in heap; "{}\n", BlockHead { function, block })?;
+    // By number, as the lines show them.
     for i in function.block_first(block)..function.block_end(block) {
         let inst = Inst(entity_number(i));
         let inst = Instruction {
@@ -160,6 +160,7 @@ fn block_text(heap: Global, function: Function<'_>, block: Block) -> Result<Stri
 
 fn blocks_text(heap: Global, function: Function<'_>) -> Result<String, AllocError> {
     let mut text = String::new(heap);
+    // By number, as a function answers for its blocks.
     for b in 0..function.num_blocks() {
         let block = Block(entity_number(b));
         text.push_str(block_text(heap, function, block)?.as_str())?;
@@ -169,9 +170,10 @@ fn blocks_text(heap: Global, function: Function<'_>) -> Result<String, AllocErro
 
 fn order_line(heap: Global, function: Function<'_>) -> Result<String, AllocError> {
     let mut line = String::from_str(heap, "order")?;
+    // By number, as a function answers for its entries.
     for k in 0..function.num_entries() {
         if let Some(entry) = function.entry(k) {
-            line.push_str(format!(in heap; " {}", EntryName(entry))?.as_str())?;
+            line.push_str(format!(in heap; " {entry}")?.as_str())?;
         }
     }
     line.push_str("\n")?;

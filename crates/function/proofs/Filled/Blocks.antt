@@ -5,7 +5,7 @@ use Rattle.function.proofs.Filled.Tables.{pushed_more, pushed_rows, rows_table}
 use Rattle.function.proofs.Filled.Values.{length_defined, numbers_defined, places_are}
 use Rattle.function.specs.Cells.{table, pushed_all}
 use Rattle.function.specs.Filling.{numbers_now, row_now, store_block, store_inst, store_insts, store_blocks}
-use Rattle.function.specs.Holding.{Store}
+use Rattle.function.specs.declared.tables.Tables.{Tables}
 use Rattle.function.specs.Numbering.{Numbers, uses_of, is_last, inst_number, defined, past_params, past_inst, past_insts, past_body, block_row, inst_row, dest_places}
 use Rattle.function.specs.declared.rows.ValueDef.TheVariants.{Param, Result}
 use Rattle.reader.specs.Data.{Instruction, Body}
@@ -13,14 +13,14 @@ use Rattle.reader.specs.Reading.{value_at, block_at}
 use Rattle.std.proofs.lemmas.List.{append-nil, length-append, length-map, length_push}
 
 -- a store with the contents a, as many as the numbers n say, and b blocks
-pub record Kept (s : Store) (a : Contents) (n : Numbers) (b : ℕ) : Type 0 where
+pub record Kept (s : Tables) (a : Contents) (n : Numbers) (b : ℕ) : Type 0 where
   pub is : s ≡ store_with a []
   pub blocks : length a.blocks ≡ b
   pub insts : length a.insts ≡ n.insts
   pub values : length a.values ≡ n.values
   pub uses : length a.uses ≡ n.uses
 
-module _ (s : Store) (a : Contents) (n : Numbers) (b : ℕ) where
+module _ (s : Tables) (a : Contents) (n : Numbers) (b : ℕ) where
   -- the row and the contents of one instruction
   row_is : (last : Bool) (x : Instruction) → Kept s a n (suc b) → Fits (a ⊕ of_inst b last n x) → row_now last x (store_with a []) ≡ inst_row b last n x
   unfolding store_with
@@ -34,18 +34,19 @@ module _ (s : Store) (a : Contents) (n : Numbers) (b : ℕ) where
   inst_is : (last : Bool) (x : Instruction) → Kept s a n (suc b) → Fits (a ⊕ of_inst b last n x)
       → store_inst last x (store_with a []) ≡ store_with (a ⊕ of_inst b last n x) []
   unfolding store_with
-  inst_is last x k h = λ i. record {
-    blocks = rows_table 64 (sym (append-nil a.blocks) i);
-    insts = pushed_rows 1024 _ _ a.insts (ap (λ r. r ∷ []) (row_is last x k h)) h.insts i;
-    values = pushed_rows 2048 _ _ a.values (ap (λ j. defined (Result (inst_number j)) 0 x.results) (length-map a.insts Some ∙ k.insts)) h.values i;
-    numbers = numbers_defined (Result (inst_number n.insts)) x.results a.values h.values i;
-    uses = pushed_more (value_at 0) 4096 (uses_of x) a.uses h.uses i;
-    destinations = (ap (λ ds. pushed_all 128 ds (table 128 None a.destinations)) (places_are last n x a.uses k.uses h.uses)
-        ∙ pushed_more None 128 (dest_places last n x) a.destinations h.destinations) i;
-    order = (store_with a []).order;
-    block_entries_of = (store_with a []).block_entries_of;
-    edge_entries_of = (store_with a []).edge_entries_of;
-  }
+  inst_is last x k h =
+      let vs = pushed_rows 2048 _ _ a.values (ap (λ j. defined (Result (inst_number j)) 0 x.results) (length-map a.insts Some ∙ k.insts)) h.values in λ i. record {
+        blocks = rows_table 64 (sym (append-nil a.blocks) i);
+        insts = pushed_rows 1024 _ _ a.insts (ap (λ r. r ∷ []) (row_is last x k h)) h.insts i;
+        values = vs i;
+        numbers = numbers_defined _ a.values _ vs h.values i;
+        uses = pushed_more (value_at 0) 4096 (uses_of x) a.uses h.uses i;
+        destinations = (ap (λ ds. pushed_all 128 ds (table 128 None a.destinations)) (places_are last n x a.uses k.uses h.uses)
+            ∙ pushed_more None 128 (dest_places last n x) a.destinations h.destinations) i;
+        order = (store_with a []).order;
+        block_entries = (store_with a []).block_entries;
+        edge_entries = (store_with a []).edge_entries;
+      }
 
   inst_kept : (last : Bool) (x : Instruction) → Kept s a n (suc b) → Fits (a ⊕ of_inst b last n x)
       → Kept (store_inst last x s) (a ⊕ of_inst b last n x) (past_inst x n) (suc b)
@@ -65,17 +66,18 @@ module _ (s : Store) (a : Contents) (n : Numbers) (b : ℕ) where
   head_is : (x : Body) → Kept s a n b → Fits (a ⊕ of_head b n x)
       → store_block x.params (length x.insts) (store_with a []) ≡ store_with (a ⊕ of_head b n x) []
   unfolding store_with
-  head_is x k h = λ i. record {
-    blocks = pushed_rows 64 _ _ a.blocks (ap (λ m. block_row m x.params (length x.insts) ∷ []) (now_is k)) h.blocks i;
-    insts = rows_table 1024 (sym (append-nil a.insts) i);
-    values = pushed_rows 2048 _ _ a.values (ap (λ j. defined (Param (block_at j)) 0 x.params) (length-map a.blocks Some ∙ k.blocks)) h.values i;
-    numbers = numbers_defined (Param (block_at b)) x.params a.values h.values i;
-    uses = table 4096 (value_at 0) (sym (append-nil a.uses) i);
-    destinations = table 128 None (sym (append-nil a.destinations) i);
-    order = (store_with a []).order;
-    block_entries_of = (store_with a []).block_entries_of;
-    edge_entries_of = (store_with a []).edge_entries_of;
-  }
+  head_is x k h =
+      let vs = pushed_rows 2048 _ _ a.values (ap (λ j. defined (Param (block_at j)) 0 x.params) (length-map a.blocks Some ∙ k.blocks)) h.values in λ i. record {
+        blocks = pushed_rows 64 _ _ a.blocks (ap (λ m. block_row m x.params (length x.insts) ∷ []) (now_is k)) h.blocks i;
+        insts = rows_table 1024 (sym (append-nil a.insts) i);
+        values = vs i;
+        numbers = numbers_defined _ a.values _ vs h.values i;
+        uses = table 4096 (value_at 0) (sym (append-nil a.uses) i);
+        destinations = table 128 None (sym (append-nil a.destinations) i);
+        order = (store_with a []).order;
+        block_entries = (store_with a []).block_entries;
+        edge_entries = (store_with a []).edge_entries;
+      }
 
   head_kept : (x : Body) → Kept s a n b → Fits (a ⊕ of_head b n x)
       → Kept (store_block x.params (length x.insts) s) (a ⊕ of_head b n x) (past_params x n) (suc b)
@@ -87,20 +89,20 @@ module _ (s : Store) (a : Contents) (n : Numbers) (b : ℕ) where
     uses = rw append-nil k.uses;
   }
 
-insts_kept : (xs : List Instruction) (s : Store) (a : Contents) (n : Numbers) (b : ℕ) → Kept s a n (suc b) → Fits (a ⊕ of_insts b n xs)
+insts_kept : (xs : List Instruction) (s : Tables) (a : Contents) (n : Numbers) (b : ℕ) → Kept s a n (suc b) → Fits (a ⊕ of_insts b n xs)
     → Kept (store_insts xs s) (a ⊕ of_insts b n xs) (past_insts xs n) (suc b)
 insts_kept [] s a n b k h = rw then_nothing k
 insts_kept (x ∷ xs) s a n b k h =
     in_turn (λ c. Kept (store_insts (x ∷ xs) s) c (past_insts (x ∷ xs) n) (suc b)) a (of_inst b (is_last xs) n x) (of_insts b (past_inst x n) xs) h
     (λ first all. insts_kept xs _ _ _ b (inst_kept s a n b (is_last xs) x k first) all)
 
-body_kept : (x : Body) (s : Store) (a : Contents) (n : Numbers) (b : ℕ) → Kept s a n b → Fits (a ⊕ of_body b n x)
+body_kept : (x : Body) (s : Tables) (a : Contents) (n : Numbers) (b : ℕ) → Kept s a n b → Fits (a ⊕ of_body b n x)
     → Kept (store_blocks (x ∷ []) s) (a ⊕ of_body b n x) (past_body x n) (suc b)
 body_kept x s a n b k h =
     in_turn (λ c. Kept (store_blocks (x ∷ []) s) c (past_body x n) (suc b)) a (of_head b n x) (of_insts b (past_params x n) x.insts) h
     (λ first all. insts_kept x.insts _ _ _ b (head_kept s a n b x k first) all)
 
-pub blocks_are : (xs : List Body) (s : Store) (a : Contents) (n : Numbers) (b : ℕ) → Kept s a n b → Fits (a ⊕ of_blocks b n xs)
+pub blocks_are : (xs : List Body) (s : Tables) (a : Contents) (n : Numbers) (b : ℕ) → Kept s a n b → Fits (a ⊕ of_blocks b n xs)
     → store_blocks xs s ≡ store_with (a ⊕ of_blocks b n xs) []
 blocks_are [] s a n b k h = rw then_nothing k.is
 blocks_are (x ∷ xs) s a n b k h =

@@ -5,7 +5,8 @@ use Rattle.clif.specs.declared.entities.Value.{Value}
 use Rattle.function.proofs.Filled.Entries.{firsts, names_place}
 use Rattle.function.proofs.Filled.Tables.{rows_table, room_before}
 use Rattle.function.specs.Cells.{table}
-use Rattle.function.specs.Holding.{Store, names_block}
+use Rattle.function.specs.Holding.{names_block}
+use Rattle.function.specs.declared.tables.Tables.{Tables}
 use Rattle.function.specs.Numbering.{Numbers, over_insts, over_blocks, uses_of, past_params, inst_number, defined, block_row, inst_row, dest_places, values_from}
 use Rattle.function.specs.declared.rows.BlockData.{BlockData}
 use Rattle.function.specs.declared.rows.DestData.{DestData}
@@ -68,7 +69,7 @@ in_turn P a b c h f =
     subst P e (f (fits_before (a ⊕ b) c all) all)
 
 -- the store of some contents and of an order
-unfoldable pub store_with : Contents → List Entry → Store
+unfoldable pub store_with : Contents → List Entry → Tables
 store_with a order = record {
   blocks = rows_table 64 a.blocks;
   insts = rows_table 1024 a.insts;
@@ -77,8 +78,8 @@ store_with a order = record {
   uses = table 4096 (value_at 0) a.uses;
   destinations = table 128 None a.destinations;
   order = rows_table 128 order;
-  block_entries_of = firsts names_block 64 order;
-  edge_entries_of = firsts names_place 128 order;
+  block_entries = firsts names_block 64 order;
+  edge_entries = firsts names_place 128 order;
 }
 
 -- an instruction, several, the head of a block, and several blocks

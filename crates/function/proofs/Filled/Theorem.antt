@@ -26,8 +26,8 @@ module _ (a : Contents) where
         uses = (store_with a []).uses;
         destinations = (store_with a []).destinations;
         order = pushed_rows 128 _ _ done refl h i;
-        block_entries_of = (ap (λ e. noted_block x e (firsts names_block 64 done)) l ∙ block_noted 64 done x) i;
-        edge_entries_of = (ap (λ e. noted_edge x e (firsts names_place 128 done)) l ∙ edge_noted 128 done x) i;
+        block_entries = (ap (λ e. noted_block x e (firsts names_block 64 done)) l ∙ block_noted 64 done x) i;
+        edge_entries = (ap (λ e. noted_edge x e (firsts names_place 128 done)) l ∙ edge_noted 128 done x) i;
       }
 
   order_is : (xs done : List Entry) → length (done ++ xs) ≤ 128 → store_order xs (store_with a done) ≡ store_with a (done ++ xs)

@@ -1,10 +1,10 @@
 -- The block of an instruction, and whether it ends that block.
-use Rattle.std.proofs.Common.{◌≡◌, ℕ, zero, suc, ◌+◌, ◌-◌, ◌<◌, ◌≤◌, true, List, [], ◌∷◌, length, Some, Option, sym, refl, ap, ◌∙◌, subst, ap₂, inl, inr, add-zero, zero-add, arith}
+use Rattle.std.proofs.Common.{◌≡◌, ℕ, zero, suc, ◌+◌, ◌-◌, ◌<◌, true, List, [], ◌∷◌, length, Some, Option, sym, refl, ap, ◌∙◌, subst, ap₂, inl, inr, add-zero, zero-add, arith, slice_get}
 use Rattle.clif.specs.declared.entities.Block.{Block}
-use Rattle.function.proofs.Places.Blocks.{size, before, before_more, first_is, end_is}
-use Rattle.function.proofs.Places.Lists.{nth_front, nth_behind, nth_within}
-use Rattle.function.specs.Answers.{all_insts, inst_of, block_of, last_of, first_of, end_of, ending_of, final, option_in, flag_in}
-use Rattle.function.specs.Numbering.{Numbers, none_before, over_insts, over_blocks, past_inst, past_body, past_params, inst_row, inst_rows, nth}
+use Rattle.function.proofs.Places.Blocks.{size, before}
+use Rattle.function.proofs.Places.Lists.{get_front, get_behind, get_within}
+use Rattle.function.specs.Answers.{all_insts, inst_of, block_of, last_of, ending_of, final, option_in, flag_in}
+use Rattle.function.specs.Numbering.{Numbers, none_before, over_insts, over_blocks, past_inst, past_body, past_params, inst_row, inst_rows}
 use Rattle.function.specs.declared.rows.InstData.{InstData}
 use Rattle.reader.specs.Data.{Instruction, Body, Func}
 use Rattle.reader.specs.Reading.{block_at}
@@ -41,7 +41,7 @@ pub record Stands (row : Option InstData) (inst : Option Instruction) (b : ℕ) 
   pub last : flag_in row (λ r. r.last) ≡ true → ending ≡ inst
 
 -- instruction j of a block
-stands : (b : ℕ) (n : Numbers) (xs : List Instruction) (j : ℕ) → j < length xs → Stands (nth (rows b n xs) j) (nth xs j) b (final xs)
+stands : (b : ℕ) (n : Numbers) (xs : List Instruction) (j : ℕ) → j < length xs → Stands (slice_get (rows b n xs) j) (slice_get xs j) b (final xs)
 stands b n [] j h = absurd (omega arith)
 stands b n (x ∷ []) zero h = record { there = (x, refl); block = refl; last = λ _. refl }
 stands b n (x ∷ []) (suc j) h = absurd (omega arith)
@@ -50,17 +50,17 @@ stands b n (x ∷ y ∷ ys) (suc j) h = stands b (past_inst x n) (y ∷ ys) j (o
 
 -- instruction j of block k, counted from b
 stands_in : (b : ℕ) (n : Numbers) (xs : List Body) (k j : ℕ) → j < size k xs
-    → Stands (nth (rows_in b n xs) (before k xs + j)) (nth (insts_in xs) (before k xs + j)) (b + k) (option_in (nth xs k) (λ x. final x.insts))
+    → Stands (slice_get (rows_in b n xs) (before k xs + j)) (slice_get (insts_in xs) (before k xs + j)) (b + k) (option_in (slice_get xs k) (λ x. final x.insts))
 stands_in b n [] k j h = absurd (omega arith)
 stands_in b n (x ∷ xs) zero j h =
     let m = past_params x n in
     let l : j < length (rows b m x.insts) = omega (arith, length_rows b m x.insts) in
-    rw (zero-add, add-zero, nth_front (rows b m x.insts) _ j l, nth_front x.insts _ j h) (stands b m x.insts j h)
+    rw (zero-add, add-zero, get_front (rows b m x.insts) _ j l, get_front x.insts _ j h) (stands b m x.insts j h)
 stands_in b n (x ∷ xs) (suc k) j h =
     let m = past_params x n in
     let i = before (suc k) (x ∷ xs) + j in
-    let p = nth_behind (rows b m x.insts) (rows_in (suc b) (past_body x n) xs) i (before k xs + j) (omega (arith, length_rows b m x.insts)) in
-    let q = nth_behind x.insts (insts_in xs) i (before k xs + j) (omega arith) in
+    let p = get_behind (rows b m x.insts) (rows_in (suc b) (past_body x n) xs) i (before k xs + j) (omega (arith, length_rows b m x.insts)) in
+    let q = get_behind x.insts (insts_in xs) i (before k xs + j) (omega arith) in
     let e : b + suc k ≡ suc b + k = omega arith in
     rw (p, q, e) (stands_in (suc b) (past_body x n) xs k j h)
 
@@ -84,12 +84,12 @@ place (x ∷ xs) i h = elim (cases_lt i (length x.insts)) [
 module _ (f : Func) where
   -- instruction i stands in block b
   abbrev pub At : ℕ → ℕ → Type 0
-  At i b = Stands (nth (inst_rows f) i) (inst_of f i) b (ending_of f b)
+  At i b = Stands (slice_get (inst_rows f) i) (inst_of f i) b (ending_of f b)
 
   pub stands_at : (b j : ℕ) → j < size b f.blocks → At (before b f.blocks + j) b
   stands_at b j h =
       let i = before b f.blocks + j in
-      subst (λ c. Stands (nth (inst_rows f) i) (inst_of f i) c (ending_of f b)) (zero-add b) (stands_in 0 none_before f.blocks b j h)
+      subst (λ c. Stands (slice_get (inst_rows f) i) (inst_of f i) c (ending_of f b)) (zero-add b) (stands_in 0 none_before f.blocks b j h)
 
   found : (i : ℕ) → i < length (all_insts f) → (b : ℕ) × (b < length f.blocks) × At i b
   found i h =
@@ -98,7 +98,7 @@ module _ (f : Func) where
 
   named : (i : ℕ) (b : Block) → block_of f i ≡ Some b → (b.0 < length f.blocks) × At i b.0
   named i b h =
-      let l = nth_within (λ r. r.block) (inst_rows f) i b h in
+      let l = get_within (λ r. r.block) (inst_rows f) i b h in
       let (c, below, s) = found i (omega (arith, length_rows_in 0 none_before f.blocks)) in
       let e : block_at c ≡ b = cc (s.block, h) in
       subst (λ d. (d.0 < length f.blocks) × At i d.0) e (below, s)
@@ -107,15 +107,6 @@ module _ (f : Func) where
   inst_there i h =
       let (b, below, s) = found i h in
       (s.there.0, block_at b, s.there.1, s.block)
-
-  pub within_block : (b i : ℕ) → b < length f.blocks → first_of f b ≤ i → i < end_of f b → block_of f i ≡ Some (block_at b)
-  within_block b i h l g =
-      let j = i - before b f.blocks in
-      let e : before b f.blocks + j ≡ i = omega (arith, first_is f b h) in
-      subst (λ c. block_of f c ≡ Some (block_at b)) e (stands_at b j (omega (arith, end_is f b h, before_more b f.blocks))).block
-
-  pub block_below : (i : ℕ) (b : Block) → block_of f i ≡ Some b → b.0 < length f.blocks
-  block_below i b h = (named i b h).0
 
   pub last_is_ending : (i : ℕ) (b : Block) → last_of f i ≡ true → block_of f i ≡ Some b → ending_of f b.0 ≡ inst_of f i
   last_is_ending i b l h = (named i b h).1.last l

@@ -1,11 +1,12 @@
 -- Where the instructions, the blocks and the destinations of a function stand in its tables.
-use Rattle.std.proofs.Common.{◌≡◌, ℕ, zero, suc, ◌+◌, ◌*◌, ◌<◌, ◌≤◌, List, [], ◌∷◌, length, get_or, None, Option, sym, refl, ap, ◌∙◌, subst, arith}
+use Rattle.std.proofs.Common.{◌≡◌, ℕ, zero, suc, ◌+◌, ◌*◌, ◌<◌, ◌≤◌, List, [], ◌∷◌, length, get_or, None, Option, sym, refl, ap, ◌∙◌, subst, arith, slice_get}
 use Rattle.clif.specs.declared.entities.Value.{Value}
+use Rattle.std.specs.List.{AllZip}
 use Rattle.function.proofs.Filled.Sizes.{two_places_each}
-use Rattle.function.proofs.Told.Each.{Both, Each, each_append, each_nth}
+use Rattle.function.proofs.Told.Each.{Both, each_append, each_at}
 use Rattle.function.proofs.Told.Reading.{Part, Stands, part_front, part_back}
 use Rattle.function.specs.Answers.{option_in, final}
-use Rattle.function.specs.Numbering.{Numbers, over_blocks, over_insts, uses_of, past_params, past_inst, past_insts, past_body, block_row, inst_row, dest_rows, dest_places, nth}
+use Rattle.function.specs.Numbering.{Numbers, over_blocks, over_insts, uses_of, past_params, past_inst, past_insts, past_body, block_row, inst_row, dest_rows, dest_places}
 use Rattle.function.specs.declared.rows.BlockData.{BlockData}
 use Rattle.function.specs.declared.rows.DestData.{DestData}
 use Rattle.function.specs.declared.rows.InstData.{InstData}
@@ -53,21 +54,21 @@ pub record DestOf (us : List Value) (r : DestData) (d : Destination) : Type 0 wh
   pub args : Part us r.first_arg r.args d.args
 
 pub blocks_each : (v b : ℕ) (n : Numbers) (xs : List Body) → n.values + sum_of body_values xs ≤ v → n.insts + sum_of (λ x. length x.insts) xs ≤ 1024
-    → Each (BlockOf v) (over_blocks (λ c m x. block_row m x.params (length x.insts) ∷ []) b n xs) xs
+    → AllZip (BlockOf v) (over_blocks (λ c m x. block_row m x.params (length x.insts) ∷ []) b n xs) xs
 blocks_each v b n [] h k = tt
 blocks_each v b n (x ∷ xs) h k =
     let e = past_counts x.insts (past_params x n) in
     (record { params = omega arith; insts = omega arith }, blocks_each v (suc b) (past_body x n) xs (omega arith) (omega arith))
 
 -- one of a list's first two elements
-one_of_two : {X : Type 0} (xs : List X) (k : ℕ) → k < 2 → get_or (nth xs 0 ∷ nth xs 1 ∷ []) k None ≡ nth xs k
+one_of_two : {X : Type 0} (xs : List X) (k : ℕ) → k < 2 → get_or (slice_get xs 0 ∷ slice_get xs 1 ∷ []) k None ≡ slice_get xs k
 one_of_two xs zero h = refl
 one_of_two xs (suc zero) h = refl
 one_of_two xs (suc (suc k)) h = absurd (omega arith)
 
 module _ (us : List Value) where
   -- the arguments of destinations from a use on
-  dests_each : (u : ℕ) (ds : List Destination) → Stands us u (flat_map (λ d. d.args) ds) → Each (DestOf us) (dest_rows u ds) ds
+  dests_each : (u : ℕ) (ds : List Destination) → Stands us u (flat_map (λ d. d.args) ds) → AllZip (DestOf us) (dest_rows u ds) ds
   dests_each u [] p = tt
   dests_each u (d ∷ ds) p = (record { target = refl; args = part_front us u d.args _ p }, dests_each (u + length d.args) ds (part_back us u d.args _ p))
 
@@ -81,18 +82,18 @@ module _ (us : List Value) where
 
   -- the destinations of the instruction that ends a block
   last_dest : (k : ℕ) → k < 2 → (n : Numbers) (xs : List Instruction) → 1 ≤ length xs → Stands us n.uses (insts_uses n xs)
-      → Both (DestOf us) (get_or (over_insts dest_places n xs) k None) (option_in (final xs) (λ x. nth x.destinations k))
+      → Both (DestOf us) (get_or (over_insts dest_places n xs) k None) (option_in (final xs) (λ x. slice_get x.destinations k))
   last_dest k h n [] some p = absurd (omega arith)
   last_dest k h n (x ∷ []) some p =
       let u = n.uses + length x.operands in
       let ds = x.destinations in
       let q = part_back us n.uses x.operands (flat_map (λ d. d.args) ds) (part_front us n.uses (uses_of x) [] p) in
-      subst (λ o. Both (DestOf us) o (nth ds k)) (sym (one_of_two (dest_rows u ds) k h)) (each_nth (DestOf us) (dest_rows u ds) ds (dests_each u ds q) k)
+      subst (λ o. Both (DestOf us) o (slice_get ds k)) (sym (one_of_two (dest_rows u ds) k h)) (each_at (DestOf us) (dest_rows u ds) ds (dests_each u ds q) k)
   last_dest k h n (x ∷ y ∷ ys) some p = last_dest k h (past_inst x n) (y ∷ ys) (omega arith) (part_back us n.uses (uses_of x) _ p)
 
   -- two places for each block
   pub dest_at : (k : ℕ) → k < 2 → (i b : ℕ) (n : Numbers) (xs : List Body) → AllByRecursion FitsBody xs → Stands us n.uses (blocks_uses b n xs)
-      → Both (DestOf us) (get_or (blocks_dests b n xs) (2 * i + k) None) (option_in (option_in (nth xs i) (λ x. final x.insts)) (λ x. nth x.destinations k))
+      → Both (DestOf us) (get_or (blocks_dests b n xs) (2 * i + k) None) (option_in (option_in (slice_get xs i) (λ x. final x.insts)) (λ x. slice_get x.destinations k))
   dest_at k h i b n [] w p = tt
   dest_at k h zero b n (x ∷ xs) w p =
       let m = past_params x n in
@@ -100,7 +101,7 @@ module _ (us : List Value) where
       let two = two_places_each m x.insts w.0.some_inst in
       let e : get_or (blocks_dests b n (x ∷ xs)) (2 * 0 + k) None ≡ get_or here k None =
       ap (λ j. get_or (blocks_dests b n (x ∷ xs)) j None) (omega arith) ∙ get_or_append_left here _ None k (omega arith) in
-      subst (λ o. Both (DestOf us) o (option_in (final x.insts) (λ y. nth y.destinations k))) (sym e)
+      subst (λ o. Both (DestOf us) o (option_in (final x.insts) (λ y. slice_get y.destinations k))) (sym e)
       (last_dest k h m x.insts w.0.some_inst (part_front us n.uses (insts_uses m x.insts) _ p))
   dest_at k h (suc i) b n (x ∷ xs) w p =
       let m = past_params x n in
@@ -108,13 +109,13 @@ module _ (us : List Value) where
       let e : get_or (blocks_dests b n (x ∷ xs)) (2 * suc i + k) None ≡ get_or (blocks_dests (suc b) (past_body x n) xs) (2 * i + k) None =
       get_or-append_right here _ 2 (2 * suc i + k) None (two_places_each m x.insts w.0.some_inst) (omega arith)
       ∙ ap (λ j. get_or (blocks_dests (suc b) (past_body x n) xs) j None) (omega arith) in
-      subst (λ o. Both (DestOf us) o (option_in (option_in (nth xs i) (λ y. final y.insts)) (λ y. nth y.destinations k))) (sym e)
+      subst (λ o. Both (DestOf us) o (option_in (option_in (slice_get xs i) (λ y. final y.insts)) (λ y. slice_get y.destinations k))) (sym e)
       (dest_at k h i (suc b) (past_body x n) xs w.1 (block_back b n x xs p))
 
   -- the rows of instructions, block by block
   module _ (v : ℕ) where
     insts_each : (b : ℕ) (n : Numbers) (xs : List Instruction) → Stands us n.uses (insts_uses n xs) → n.values + insts_values xs ≤ v
-        → Each (RowOf us v) (over_insts (λ last m i. inst_row b last m i ∷ []) n xs) xs
+        → AllZip (RowOf us v) (over_insts (λ last m i. inst_row b last m i ∷ []) n xs) xs
     insts_each b n [] p h = tt
     insts_each b n (x ∷ xs) p h =
         let m = past_inst x n in
@@ -133,7 +134,7 @@ module _ (us : List Value) where
         )
 
     pub rows_each : (b : ℕ) (n : Numbers) (xs : List Body) → Stands us n.uses (blocks_uses b n xs) → n.values + sum_of body_values xs ≤ v
-        → Each (RowOf us v) (over_blocks (λ c m x. over_insts (λ last k i. inst_row c last k i ∷ []) (past_params x m) x.insts) b n xs) (flat_map (λ x. x.insts) xs)
+        → AllZip (RowOf us v) (over_blocks (λ c m x. over_insts (λ last k i. inst_row c last k i ∷ []) (past_params x m) x.insts) b n xs) (flat_map (λ x. x.insts) xs)
     rows_each b n [] p h = tt
     rows_each b n (x ∷ xs) p h =
         let m = past_params x n in

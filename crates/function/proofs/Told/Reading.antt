@@ -1,14 +1,15 @@
 -- Reading a table of a list: one place, or a part.
-use Rattle.std.proofs.Common.{◌≡◌, ℕ, zero, suc, ◌+◌, ◌-◌, ◌<◌, ◌≤◌, cond, ltb, List, [], ◌∷◌, ◌++◌, map, length, get_or, take, drop, replicate, Some, None, sym, refl, ap, ◌∙◌, ap₂, ⊎_elim, add-zero, zero-add, arith}
-use Rattle.function.proofs.Filled.Entries.{length_by_index, getD_by_index}
+use Rattle.std.proofs.Common.{◌≡◌, ℕ, zero, suc, ◌+◌, ◌-◌, ◌*◌, ◌<◌, ◌≤◌, cond, ltb, List, [], ◌∷◌, ◌++◌, map, length, get_or, take, drop, replicate, Some, None, Option, sym, refl, ap, ◌∙◌, ⊎_elim, add-zero, zero-add, arith, slice_get}
 use Rattle.function.proofs.Filled.Tables.{rows_table}
-use Rattle.function.proofs.Filled.Values.{length_values}
 use Rattle.function.specs.Cells.{Cells, table}
-use Rattle.function.specs.Holding.{by_index}
-use Rattle.function.specs.Numbering.{nth, values_from}
+use Rattle.function.specs.Holding.{edge_place}
+use Rattle.function.specs.Numbering.{values_from}
 use Rattle.reader.specs.Reading.{value_at}
 use Rattle.std.proofs.lemmas.List.{drop-append-le, drop_at, drop-drop, drop-take, get_or_past, length-append, length-drop, length-map, take_all, take-append-le, take_at, take-take}
-use Rattle.std.proofs.lemmas.Bool.{cases_lt, cond_below, cond_above}
+use Rattle.std.specs.Option.{option_and_then}
+use Rattle.std.specs.List.{range_with_len}
+use Rattle.std.proofs.lemmas.List.FromFn.{get_or-map-range_with_len, length-map-range_with_len, take-map-range_with_len}
+use Rattle.std.proofs.lemmas.Bool.{cases_lt, cond_below, cond_above, cond_both, ltb-true, ltb-false}
 
 -- the k elements of us from a on are xs; xs stands in us at a
 pub record Part {E : Type 0} (us : List E) (a k : ℕ) (xs : List E) : Type 0 where
@@ -53,19 +54,24 @@ module _ {E : Type 0} (z : E) where
         ∙ p.is
 
 -- one place of a table of rows
-getD_nth : {E : Type 0} (xs : List E) (i : ℕ) → get_or (map Some xs) i None ≡ nth xs i
-getD_nth [] i = refl
-getD_nth (x ∷ xs) zero = refl
-getD_nth (x ∷ xs) (suc i) = getD_nth xs i
+rows_get : {E : Type 0} (xs : List E) (i : ℕ) → get_or (map Some xs) i None ≡ slice_get xs i
+rows_get [] i = refl
+rows_get (x ∷ xs) zero = refl
+rows_get (x ∷ xs) (suc i) = rows_get xs i
 
-pub row_read : {E : Type 0} (n : ℕ) (xs : List E) (c : Cells _) → c ≡ rows_table n xs → length xs ≤ n → (i : ℕ) → get_or c.rows i None ≡ nth xs i
-row_read n xs c is few i = place_read None n (map Some xs) c is (rw length-map few) i ∙ getD_nth xs i
+pub row_read : {E : Type 0} (n : ℕ) (xs : List E) (c : Cells _) → c ≡ rows_table n xs → length xs ≤ n → (i : ℕ) → get_or c.rows i None ≡ slice_get xs i
+row_read n xs c is few i = place_read None n (map Some xs) c is (rw length-map few) i ∙ rows_get xs i
+
+-- one place of a table with two places for each block
+pub at_edge : {X : Type 0} (b k : ℕ) (read : ℕ → Option X) (d : Option X) → (k < 2 → d ≡ read (2 * b + k)) → (2 ≤ k → d ≡ None) → d ≡ option_and_then read (edge_place b k)
+at_edge b k read d below past =
+    cond_both (ltb k 2) (Some (2 * b + k)) None (λ o. d ≡ option_and_then read o) (λ e. below (ltb-true k 2 e)) (λ e. past (ltb-false k 2 e))
 
 -- one place of a list by index
-pub index_read : {X : Type 0} (g : ℕ → X) (n i : ℕ) (d : X) → get_or (by_index g 0 n) i d ≡ cond (ltb i n) (g i) d
+pub index_read : {X : Type 0} (g : ℕ → X) (n i : ℕ) (d : X) → get_or (map g (range_with_len 0 n)) i d ≡ cond (ltb i n) (g i) d
 index_read g n i d = ⊎_elim
-    (λ (h : i < n). getD_by_index g n i d h ∙ cond_below i n (g i) d h)
-    (λ (h : n ≤ i). cond_above i n (g i) d _ h (get_or_past _ i d (omega (arith, length_by_index g 0 n))))
+    (λ (h : i < n). get_or-map-range_with_len g 0 n i i d h (zero-add i) ∙ cond_below i n (g i) d h)
+    (λ (h : n ≤ i). cond_above i n (g i) d _ h (get_or_past _ i d (omega (arith, length-map-range_with_len g 0 n))))
     (cases_lt i n)
 
 -- the whole list, what stands in front, and what stands behind that
@@ -90,18 +96,13 @@ module _ {E : Type 0} (us : List E) where
         }
 
 -- a part of the values
-take_values : (k n v : ℕ) → k ≤ n → take k (values_from v n) ≡ values_from v k
-take_values zero n v h = refl
-take_values (suc k) zero v h = absurd (omega arith)
-take_values (suc k) (suc n) v h = ap (λ vs. value_at v ∷ vs) (take_values k n (suc v) (omega arith))
-
-drop_values : (a n v : ℕ) → a ≤ n → drop a (values_from v n) ≡ values_from (a + v) (n - a)
-drop_values zero n v h = let e : n ≡ n - 0 = omega arith in rw (zero-add, ← e)
-drop_values (suc a) zero v h = absurd (omega arith)
-drop_values (suc a) (suc n) v h = drop_values a n (suc v) (omega arith) ∙ ap₂ values_from (omega arith) (omega arith)
+drop_values : (a n v w : ℕ) → a + v ≡ w → drop a (values_from v n) ≡ values_from w (n - a)
+drop_values zero n v w e = let m : n ≡ n - 0 = omega arith in let z : v ≡ w = omega arith in rw (← m, z)
+drop_values (suc a) zero v w e = let z : 0 - suc a ≡ 0 = omega arith in rw z
+drop_values (suc a) (suc n) v w e = drop_values a n (v + 1) w (omega arith) ∙ ap (values_from w) (omega arith)
 
 pub values_part : (n a k : ℕ) → a + k ≤ n → Part (values_from 0 n) a k (values_from a k)
 values_part n a k h = record {
-  within = omega (arith, length_values 0 n);
-  is = ap (take k) (drop_values a n 0 (omega arith) ∙ ap (λ v. values_from v (n - a)) (add-zero a)) ∙ take_values k (n - a) a (omega arith);
+  within = omega (arith, length-map-range_with_len value_at 0 n);
+  is = ap (take k) (drop_values a n 0 a (add-zero a)) ∙ take-map-range_with_len value_at a (n - a) k (omega arith);
 }

@@ -1,15 +1,9 @@
-use Rattle.std.proofs.Common.{◌≡◌, length, sym, arith}
-use Rattle.analysis.proofs.Marking.{first_none, first_some}
-use Rattle.analysis.proofs.uses.first_result.Goals as goal
+use Rattle.std.proofs.Common.{ap, ◌∙◌}
+use Rattle.analysis.proofs.Marking.{first_of_list}
+use Rattle.std.specs.Option.{option_map}
 use Rattle.function.specs.Answers.{results_of}
-use Rattle.std.proofs.lemmas.Bool.{eqb-true, eqb-false}
+use Rattle.analysis.proofs.uses.first_result.Goals as goal
 
-pub returns-then-is_empty : goal.returns-then-is_empty
-returns-then-is_empty c f s =
-    let e : length c.inst_results-results.result.now ≡ 0 = eqb-true (length c.inst_results-results.result.now) 0 (sym c.if-is_empty.ensures) in
-    first_none c.inst_results-results.result.now (results_of f c.args.inst.0) (c.inst_results-results.ensures f s) (omega arith)
-
-pub returns-else-is_empty : goal.returns-else-is_empty
-returns-else-is_empty c f s =
-    let e : length c.inst_results-results.result.now ≡ 0 → ⊥ = eqb-false (length c.inst_results-results.result.now) 0 (sym c.if-is_empty.ensures) in
-    first_some c.inst_results-results.result.now (results_of f c.args.inst.0) (c.inst_results-results.ensures f s) _ (omega arith)
+pub returns : goal.returns
+returns c = λ f s.
+    ap (option_map (λ v. v.0)) (c.copied.ensures ∙ c.first.ensures.value) ∙ first_of_list c.inst_results.result.now (results_of f c.args.inst.0) (c.inst_results.ensures f s)

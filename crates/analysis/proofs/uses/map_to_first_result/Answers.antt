@@ -1,11 +1,15 @@
-use Rattle.std.proofs.Common.{ap, ◌∙◌}
+use Rattle.std.proofs.Common.{Some, sym, ap, ◌∙◌}
 use Rattle.analysis.specs.Uses.{counted_by, counted_on}
 use Rattle.analysis.proofs.uses.map_to_first_result.Goals as goal
 
-pub returns-in-Some : goal.returns-in-Some
+pub returns-in_err-value_def : goal.returns-in_err-value_def
 unfolding counted_on
-returns-in-Some c f s = c.first_of_def.ensures f s ∙ ap (counted_by f c.args.val.0) (c.in-Some.ensures f s)
+returns-in_err-value_def c = λ f s. rw c.from_residual.ensures (ap (counted_by f c.args.val.0) (c.in_err-value_def.ensures f s))
 
-pub returns-in-None : goal.returns-in-None
+pub returns-in-Param : goal.returns-in-Param
 unfolding counted_on
-returns-in-None c f s = ap (counted_by f c.args.val.0) (c.in-None.ensures f s)
+returns-in-Param c = λ f s. ap (counted_by f c.args.val.0) (sym (ap Some c.in-Param.is) ∙ c.in_ok-value_def.ensures f s)
+
+pub returns-in-Result : goal.returns-in-Result
+unfolding counted_on
+returns-in-Result c = λ f s. c.first_result.ensures f s ∙ ap (counted_by f c.args.val.0) (sym (ap Some c.in-Result.is) ∙ c.in_ok-value_def.ensures f s)

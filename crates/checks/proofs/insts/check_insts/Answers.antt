@@ -1,19 +1,20 @@
-use Rattle.std.proofs.Common.{◌≡◌, ◌-◌, ◌<◌, length, sym, ap, ◌∙◌, arith}
-use Rattle.checks.specs.Checks.{inst_tests}
+use Rattle.std.proofs.Common.{◌<◌, length, sym, ap, ◌∙◌, arith}
+use Rattle.checks.specs.Checks.{inst_tests, tests_of_inst}
 use Rattle.checks.specs.Tests.{first_fault}
-use Rattle.checks.proofs.Loops.{insts_more, insts_row, insts_numbers, insts_all}
+use Rattle.checks.proofs.Runs.{tests_begin, tests_more, tests_stop, tests_end}
 use Rattle.function.specs.Answers.{all_insts}
 use Rattle.checks.proofs.insts.check_insts.Goals as goal
 
 pub loop-i-init : goal.loop-i-init
-loop-i-init c = λ f h. let e : c.num_insts-n.result - 0 ≡ c.num_insts-n.result = omega arith in ap (λ m. first_fault (inst_tests f 0 m)) (sym e)
+loop-i-init c = λ f h. tests_begin (tests_of_inst f) c.num_insts-n.result
 
 pub returns-then-not-row_fits : goal.returns-then-not-row_fits
 returns-then-not-row_fits c = λ f h.
     let n = c.num_insts-n.result in
     let i = c.loop-i.i in
+    let row = sym (c.row_fits.ensures f h) ∙ c.if-not-row_fits.true in
     sym (ap (λ m. first_fault (inst_tests f 0 m)) (sym (c.num_insts-n.ensures.value f h)) ∙ c.loop-i.invariant f h
-    ∙ insts_row f n i c.loop-i-test.true (sym (c.row_fits.ensures f h) ∙ c.if-not-row_fits.true))
+    ∙ tests_stop (tests_of_inst f) n i (3, i) c.loop-i-test.true (rw row))
 
 pub returns-then-not-numbers_fit : goal.returns-then-not-numbers_fit
 returns-then-not-numbers_fit c = λ f h.
@@ -21,8 +22,9 @@ returns-then-not-numbers_fit c = λ f h.
     let i = c.loop-i.i in
     let row = sym (c.row_fits.ensures f h) ∙ c.if-not-row_fits.false in
     let l : i < length (all_insts f) = omega (arith, c.num_insts-n.ensures.value f h, c.loop-i-test.true) in
+    let numbers = sym (c.numbers_fit.ensures f h l row) ∙ c.if-not-numbers_fit.true in
     sym (ap (λ m. first_fault (inst_tests f 0 m)) (sym (c.num_insts-n.ensures.value f h)) ∙ c.loop-i.invariant f h
-    ∙ insts_numbers f n i c.loop-i-test.true row (sym (c.numbers_fit.ensures f h l row) ∙ c.if-not-numbers_fit.true))
+    ∙ tests_stop (tests_of_inst f) n i (4, i) c.loop-i-test.true (rw (row, numbers)))
 
 pub loop-i-preserved : goal.loop-i-preserved
 loop-i-preserved c = λ f h.
@@ -30,9 +32,10 @@ loop-i-preserved c = λ f h.
     let i = c.loop-i.i in
     let row = sym (c.row_fits.ensures f h) ∙ c.if-not-row_fits.false in
     let l : i < length (all_insts f) = omega (arith, c.num_insts-n.ensures.value f h, c.loop-i-test.true) in
-    c.loop-i.invariant f h ∙ insts_more f n i c.loop-i-test.true row (sym (c.numbers_fit.ensures f h l row) ∙ c.if-not-numbers_fit.false)
+    let numbers = sym (c.numbers_fit.ensures f h l row) ∙ c.if-not-numbers_fit.false in
+    c.loop-i.invariant f h ∙ tests_more (tests_of_inst f) n i c.loop-i-test.true (rw (row, numbers))
 
 pub returns : goal.returns
 returns c = λ f h.
-    let n = c.num_insts-n.result in
-    sym (ap (λ m. first_fault (inst_tests f 0 m)) (sym (c.num_insts-n.ensures.value f h)) ∙ c.loop-i.invariant f h ∙ insts_all f n c.loop-i.i c.loop-i-test.false)
+    sym (ap (λ m. first_fault (inst_tests f 0 m)) (sym (c.num_insts-n.ensures.value f h)) ∙ c.loop-i.invariant f h
+    ∙ tests_end (tests_of_inst f) c.num_insts-n.result c.loop-i.i c.loop-i-test.false)

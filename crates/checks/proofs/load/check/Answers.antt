@@ -1,6 +1,6 @@
 use Rattle.std.proofs.Common.{◌++◌, length, sym, ◌∙◌}
 use Rattle.checks.specs.Checks.{inst_tests, entry_tests, uses_tests}
-use Rattle.checks.proofs.Judged.{fault_behind, fault_before}
+use Rattle.checks.proofs.Runs.{fault_behind, fault_before}
 use Rattle.function.specs.Answers.{all_insts}
 use Rattle.std.proofs.lemmas.Result.{err_from_is_err_and}
 use Rattle.checks.proofs.load.check.Goals as goal

@@ -1,16 +1,14 @@
-use Rattle.std.proofs.Common.{◌≡◌, ◌+◌, ◌≤◌}
-use Rattle.function.specs.Cells.{cells, pushed_all}
+use Rattle.std.proofs.Common.{◌≡◌, ◌+◌, ◌≤◌, map, length, Some, None, []}
+use Rattle.function.specs.Cells.{pushed_all, table}
 use Rattle.function.specs.Filling.{placed}
-use Rattle.function.proofs.Loops.{gather, nothing_kept}
 use Rattle.reader.specs.Records.{destinations_of}
 use Rattle.std.specs.List.{flat_map}
 use Rattle.function.proofs.fill.push_destinations.Given as goal
 
 abbrev pub invariant-loop-d : goal.invariant-loop-d
-invariant-loop-d l =
-    (l.seen.count + l.rest.left ≤ l.destinations.left)
-    × (gather l.seen (placed (destinations_of l.rest) (cells l.uses)) ≡ gather nothing_kept (placed (destinations_of l.destinations) (cells l.initial.uses)))
-    × (pushed_all 4096 (flat_map (λ d. d.args) (destinations_of l.rest)) (cells l.uses) ≡ pushed_all 4096 (flat_map (λ d. d.args) (destinations_of l.destinations)) (cells l.initial.uses))
-
-abbrev pub decreases-loop-d : goal.decreases-loop-d
-decreases-loop-d l = l.rest.left
+invariant-loop-d l = record {
+  count : l.kept.count + length (destinations_of l.d-iterator) ≡ length (destinations_of l.destinations);
+  few : l.kept.count + l.d-iterator.left ≤ l.destinations.left;
+  places : pushed_all 2 (map Some (placed (destinations_of l.d-iterator) l.uses)) l.kept.places ≡ pushed_all 2 (map Some (placed (destinations_of l.destinations) l.initial.uses)) (table 2 None []);
+  uses : pushed_all 4096 (flat_map (λ d. d.args) (destinations_of l.d-iterator)) l.uses ≡ pushed_all 4096 (flat_map (λ d. d.args) (destinations_of l.destinations)) l.initial.uses;
+}

@@ -1,6 +1,6 @@
-use Rattle.std.proofs.Common.{◌∙◌}
+use Rattle.std.proofs.Common.{rules}
 use Rattle.function.proofs.Told.Shown.{blocks_shown}
 use Rattle.function.proofs.function.Function.num_blocks.Goals as goal
 
-pub returns : goal.returns
-returns c = record { value = λ f h. c.len.ensures.value ∙ blocks_shown c.args.self f h; bound = c.len.ensures.bound }
+pub returns-clause-value : goal.returns-clause-value
+returns-clause-value c f h = let e = blocks_shown c.args.self f h in search rules

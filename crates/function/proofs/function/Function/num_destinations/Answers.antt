@@ -1,8 +1,6 @@
+use Rattle.std.proofs.Common.{rules}
 use Rattle.function.proofs.Told.Insts.{destinations_told}
 use Rattle.function.proofs.function.Function.num_destinations.Goals as goal
 
-pub returns-in-Some : goal.returns-in-Some
-returns-in-Some c f h = destinations_told c.args.self f h _ _ c.in-Some.ensures
-
-pub returns-in-None : goal.returns-in-None
-returns-in-None c f h = destinations_told c.args.self f h _ _ c.in-None.ensures
+pub returns : goal.returns
+returns c f h = let e = destinations_told c.args.self f h c.args.inst.0 in search rules

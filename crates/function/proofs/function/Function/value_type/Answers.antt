@@ -1,9 +1,6 @@
-use Rattle.std.proofs.Common.{◌∙◌}
+use Rattle.std.proofs.Common.{rules}
 use Rattle.function.proofs.Told.Orders.{type_told}
 use Rattle.function.proofs.function.Function.value_type.Goals as goal
 
-pub returns-in_err-read : goal.returns-in_err-read
-returns-in_err-read c f h = c.from_residual.ensures ∙ type_told c.args.self f h _ _ _ c.index.ensures c.in_err-read.ensures
-
 pub returns : goal.returns
-returns c f h = type_told c.args.self f h _ _ _ c.index.ensures c.in_ok-read.ensures
+returns c f h = let e = type_told c.args.self f h c.args.value.0 in search rules

@@ -1,7 +1,14 @@
-use Rattle.function.specs.Holding.{zero_store}
-use Rattle.function.proofs.Stores.{same_store}
 use Rattle.function.proofs.tables.Tables.new.Goals as goal
 
 pub returns : goal.returns
-returns c =
-    same_store _ zero_store c.new.ensures c.new-2.ensures c.new-3.ensures c.new-4.ensures c.new-5.ensures c.new-6.ensures c.new-7.ensures c.new-8.ensures c.new-9.ensures
+returns c = λ i. record {
+  blocks = c.new.ensures i;
+  insts = c.new-2.ensures i;
+  values = c.new-3.ensures i;
+  numbers = c.new-4.ensures i;
+  uses = c.new-5.ensures i;
+  destinations = c.new-6.ensures i;
+  order = c.new-7.ensures i;
+  block_entries = c.new-8.ensures i;
+  edge_entries = c.new-9.ensures i;
+}

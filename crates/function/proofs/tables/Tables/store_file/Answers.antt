@@ -1,6 +1,5 @@
 use Rattle.std.proofs.Common.{◌<◌, IfSome, Ok, sym, refl, ap, ◌∙◌, subst}
 use Rattle.function.specs.Filling.{stored, tail_of}
-use Rattle.function.specs.Holding.{view}
 use Rattle.function.proofs.Whole.{record_stored, file_stored}
 use Rattle.reader.specs.Stream.{left, handed, mapped_outcome, due, Counts}
 use Rattle.std.proofs.lemmas.Result.{err_from_is_err_and}
@@ -11,8 +10,8 @@ loop-item-init c = refl
 
 pub returns-in_err-item : goal.returns-in_err-item
 returns-in_err-item c =
-    let s = view c.args.self.now in
-    let u = view c.loop-item.self in
+    let s = c.args.self.now in
+    let u = c.loop-item.self in
     let x = c.in_ok-reader.reader in
     let p = err_from_is_err_and c.from_residual-in_err-item.result c.from_residual-in_err-item.ensures.1 in
     rw (p.1, p.2) (record {
@@ -27,15 +26,15 @@ loop-item-smaller c = subst (λ o. IfSome o (λ _. due c.next.new.self < due c.l
 pub loop-item-preserved : goal.loop-item-preserved
 loop-item-preserved c =
     let y = c.next.new.self in
-    record_stored c.in-Some.item c.loop-item.reader y (view c.loop-item.self) (view c.store.new.self) c.at_block_end.result
+    record_stored c.in-Some.item c.loop-item.reader y c.loop-item.self c.store.new.self c.at_block_end.result
     (c.in_ok-item.ensures.hands ∙ ap (λ o. handed (Ok o) (left y)) c.in-Some.is) c.at_block_end.ensures
     (subst (λ o. Counts o y) c.in-Some.is c.in_ok-item.ensures.counts) c.store.ensures
     ∙ c.loop-item.invariant
 
 pub returns : goal.returns
 returns c =
-    let s = view c.args.self.now in
-    let u = view c.loop-item.self in
+    let s = c.args.self.now in
+    let u = c.loop-item.self in
     let x = c.in_ok-reader.reader in
     let y = c.next.new.self in
     record {

@@ -1,12 +1,16 @@
-use Rattle.std.proofs.Common.{sym, refl, ap, ◌∙◌, arith}
-use Rattle.reader.specs.Reading.{fault}
-use Rattle.reader.proofs.Lengths.{words_cut, words_told}
+use Rattle.std.proofs.Common.{refl}
+use Rattle.reader.proofs.Lengths.{words_ok, words_cut}
 use Rattle.reader.proofs.fields.Fields.words.Goals as goal
 
-pub returns-then-n-self : goal.returns-then-n-self
-returns-then-n-self c =
+pub returns-in-Some : goal.returns-in-Some
+returns-in-Some c =
     let x = c.args.self.now in
-    record { told = ap (fault 1) c.saturating_sub.ensures ∙ sym (words_cut x.size x.totals c.args.n x.rest.now (omega arith)); size = refl }
+    let s = c.in-Some.ensures.cases in
+    let w = words_ok x.size x.totals c.from.result x.rest.now s.0 in
+    record { tells = rw (← c.from.ensures, w, s.1, s.2); size = refl }
 
-pub returns : goal.returns
-returns c = record { told = words_told c.args.n c.args.self.now c.bytes.new.self c.bytes.result (omega arith) c.bytes.ensures.takes; size = c.bytes.ensures.size }
+pub returns-in-None : goal.returns-in-None
+returns-in-None c =
+    let x = c.args.self.now in
+    let w = words_cut x.size x.totals c.from.result x.rest.now c.in-None.ensures.cases in
+    record { tells = rw (← c.from.ensures, w, c.saturating_sub.ensures); size = refl }

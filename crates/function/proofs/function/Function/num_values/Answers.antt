@@ -1,6 +1,0 @@
-use Rattle.std.proofs.Common.{◌∙◌}
-use Rattle.function.proofs.Told.Shown.{values_shown}
-use Rattle.function.proofs.function.Function.num_values.Goals as goal
-
-pub returns : goal.returns
-returns c = record { value = λ f h. c.len.ensures.value ∙ values_shown c.args.self f h; bound = c.len.ensures.bound }

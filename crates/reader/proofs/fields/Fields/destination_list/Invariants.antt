@@ -1,8 +1,0 @@
-use Rattle.std.proofs.Common.{◌≡◌}
-use Rattle.reader.specs.Reading.{destination}
-use Rattle.reader.specs.Told.{spot}
-use Rattle.reader.proofs.Turns.{Went}
-use Rattle.reader.proofs.fields.Fields.destination_list.Given as goal
-
-abbrev pub invariant-loop-k : goal.invariant-loop-k
-invariant-loop-k l = Went destination l.initial.self.size l.n l._k (spot l.initial.self) (spot l.self) × (l.self.size ≡ l.initial.self.size)
