@@ -87,7 +87,7 @@ impl<'a> UseStates<'a> {
         ensures { self.new ≡ cleared n self.old }
     {
         let n = n.min(self.states.len());
-        // `[..n]` was tried: of what is written through it the proof knows the length alone.
+        // `[..n].fill(..)` was tried: the proof then knew the length alone of what is written.
         self.states[0..n].fill(ValueUseState::Unused);
     }
 
@@ -96,6 +96,7 @@ impl<'a> UseStates<'a> {
         ensures answer { result ≡ turns (slice_index_or self.old value.0 Multiple) }
         ensures after { self.new ≡ slice_set self.old value.0 (raised (slice_index_or self.old value.0 Multiple)) }
     {
+        // By index: `get_mut` does not say what the slice ends as.
         let v = value.index();
         if v >= self.states.len() {
             return false;

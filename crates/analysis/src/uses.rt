@@ -1,4 +1,5 @@
-// How often each value of a function is used.
+// How often each value of a function is used. Clauses are said of each function that the tables show; why stands at `Shows` in
+// crate `function`.
 ghost use Rattle.std.specs.Prelude.{◌≡◌, OnErr};
 ghost use Rattle.analysis.specs.Marks.{work_of, marked, marked_all, counts, uses_behind, Kept, SamePlaces, Worked};
 ghost use Rattle.analysis.specs.Uses.{counted_on, first_result_of, uses, SameSize, StateLaw, Computed};
@@ -70,7 +71,7 @@ impl Counting<'_, '_, '_, '_> {
         ensures places { SamePlaces self.old self.new }
     {
         let insts = func.num_insts();
-        // By number, as a function answers for its instructions.
+        // By number, as a function answers for its instructions; and by `as`, since `EntityRef` has no `new`.
         for i in 0..insts {
             self.mark_inst(func, Inst(i as u16));
         }

@@ -1,4 +1,5 @@
-// The checks of a function file, and the call that takes a file.
+// The checks of a function file, and the call that takes a file. Clauses are said of each function that the tables show; why
+// stands at `Shows` in crate `function`.
 #![tactic(auto)]
 
 pub mod insts;

@@ -1,5 +1,6 @@
 // Each value and block that an instruction names exists, and arguments are like parameters.
-// Options of which a call decides are taken apart by `match`: what the call answers inside a closure is lost to the proof.
+// Options are taken apart by `match`: `is_none_or` and `is_some_and` were tried, and no proof of a clause said of each function
+// closed.
 ghost use Rattle.std.specs.Prelude.{◌≡◌, ◌<◌, true, length};
 ghost use Rattle.checks.specs.Checks.{same_type, same_types, value_exists, destination_fits, numbers_fit, with_inst, row_test};
 ghost use Rattle.checks.specs.Steps.{maybe_fits, ends_fit};

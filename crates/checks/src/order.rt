@@ -1,5 +1,6 @@
 // The order, entry by entry.
-// Options of which a call decides are taken apart by `match`: what the call answers inside a closure is lost to the proof.
+// Options are taken apart by `match`: `is_none_or` and `is_some_and` were tried, and no proof of a clause said of each function
+// closed.
 ghost use Rattle.std.specs.Prelude.{◌≡◌, length, is_some};
 ghost use Rattle.checks.specs.Checks.{is_entry, is_before, entry_test, entry_tests};
 ghost use Rattle.checks.specs.Steps.{maybe_ordered, kept_entry_fits, InstsPass};
@@ -48,6 +49,7 @@ fn leads(func: Function, b: Block, k: usize) -> bool
 fn edge_fits(func: Function, e: usize, b: Block, k: u8) -> bool
     ensures { (f : Func) → Shows func.entry f → result ≡ kept_entry_fits f e (to_edge b k) }
 {
+    // `usize::from` was tried: the proof of the clause did not close.
     b.index() < func.num_blocks()
         && leads(func, b, k as usize)
         && func.edge_entry(b, k as usize) == Some(e)

@@ -1,5 +1,6 @@
 // Each instruction looks as its opcode's row says.
-// Options of which a call decides are taken apart by `match`: what the call answers inside a closure is lost to the proof.
+// Options are taken apart by `match`: `is_none_or` and `is_some_and` were tried, and no proof of a clause said of each function
+// closed.
 ghost use Rattle.std.specs.Prelude.{◌≡◌};
 ghost use Rattle.checks.specs.Checks.{width_fits, first_type, constant_fits, shape_fits, row_fits, same_flag, with_inst};
 ghost use Rattle.function.specs.Answers.{Shows, last_of, results_of, inst_of, option_in};

@@ -1,5 +1,6 @@
 // Each use comes after its definition, in the order's order.
-// Options of which a call decides are taken apart by `match`: what the call answers inside a closure is lost to the proof.
+// Options are taken apart by `match`: `is_none_or` and `is_some_and` were tried, and no proof of a clause said of each function
+// closed.
 ghost use Rattle.std.specs.Prelude.{◌≡◌, length};
 ghost use Rattle.checks.specs.Checks.{ordered_before, inst_before, def_before, value_before, uses_test, uses_tests};
 ghost use Rattle.checks.specs.Tests.{first_fault, fault_of};
@@ -14,9 +15,6 @@ use clif::refusals::Refusal;
 use function::function::Function;
 use function::rows::ValueDef;
 
-// Each of these asks of instruction `i` of block `b`, and its contract names all three: a struct of them would be taken apart
-// in every clause.
-
 // Whether block `c` stands before block `b` in the order.
 fn ordered_before(func: Function, c: Block, b: Block) -> bool
     ensures { (f : Func) → Shows func.entry f → result ≡ ordered_before (entry_of_block f c.0) (entry_of_block f b.0) }
@@ -27,6 +25,7 @@ fn ordered_before(func: Function, c: Block, b: Block) -> bool
     }
 }
 
+// These four ask of an instruction of block `b`, and their clauses name both: a struct of the two would be taken apart in each.
 fn inst_before(func: Function, b: Block, i: usize, j: Inst) -> bool
     ensures { (f : Func) → Shows func.entry f → result ≡ inst_before f b.0 i j.0 (block_of f j.0) }
 {
@@ -82,7 +81,7 @@ pub(crate) fn check_uses(func: Function) -> Result<(), Refusal>
     ensures { (f : Func) → Shows func.entry f → fault_of result ≡ first_fault (uses_tests f 0 (length (all_insts f))) }
 {
     let n = func.num_insts();
-    // By number: a refusal says which.
+    // By number: a refusal says which; and by `as`, since `EntityRef` has no `new`.
     for i in 0..n {
         if !uses_fit(func, Inst(i as u16)) {
             return Err(Refusal::UseBeforeDefinition(i));

@@ -1,4 +1,4 @@
-// Fills the tables from a file, record by record.
+// Fills the tables from a file, record by record. Entities are made of numbers by `as`, since `EntityRef` has no `new`.
 ghost use Rattle.std.specs.Prelude.{cond, [], ◌≡◌, ℕ, ◌+◌, ◌^◌, ◌<◌, ◌≤◌, List, ◌++◌, map, length, Some};
 ghost use Rattle.function.specs.Cells.{pushed_all};
 ghost use Rattle.function.specs.Filling.{numbered, placed, KeptOf, store_block, store_inst, store_entry, noted};

@@ -1,4 +1,5 @@
-// Predicates of instructions. One that does not exist is no effect, no branch and no constant.
+// Predicates of instructions. One that does not exist is no effect, no branch and no constant. Clauses are said of each function
+// that the tables show; why stands at `Shows`.
 ghost use Rattle.std.specs.Prelude.{◌≡◌};
 ghost use Rattle.clif.specs.Rows.{row_of};
 ghost use Rattle.function.specs.Answers.{Shows, inst_of};

@@ -1,4 +1,5 @@
-// The rows of the tables. Where a list stands is said by its first place and its length: a `Range` is not `Copy`.
+// The rows of the tables. Where a list stands is said by its first place and its length: a struct of the two would be
+// taken apart wherever it is read.
 use clif::entities::{Block, Inst};
 use clif::opcodes::Opcode;
 use clif::types::Type;

@@ -6,7 +6,7 @@ ghost use Rattle.function.specs.Cells.{pushed, pushed_all, written, table as tab
 use std::marker::Model;
 
 // The first `len` rows are in use. An array with a length and no `Vec`: tables are as long as the limits, nothing is
-// allocated, and what is behind the rows in use is zero.
+// allocated. Not a `PushList`, which is lent its places and promises nothing of those that are free: here they are zero.
 #[derive(Drop)]
 pub struct Table<E, const N: usize> {
     rows: [E; N],

@@ -11,7 +11,8 @@ pub fn fill<E: Copy>(elems: &mut [E], x: E)
     elems.fill_with(|| x);
 }
 
-// An element for each number: those below the slice's length are stored, all others are the default.
+// An element for each number: those below the slice's length are stored, all others are the default. A
+// slice and no map of std: storage is lent, and nothing is allocated.
 #[derive(Drop)]
 pub struct SecondaryMap<'a, E> {
     elems: &'a mut [E],
