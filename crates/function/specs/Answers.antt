@@ -8,16 +8,21 @@ use Rattle.function.specs.Numbering.{block_rows, inst_rows, value_rows, values_f
 use Rattle.function.specs.declared.function.BlockCall.{BlockCall}
 use Rattle.function.specs.declared.function.Function.{Function}
 use Rattle.function.specs.declared.rows.ValueDef.{ValueDef}
+use Rattle.function.specs.declared.tables.Tables.{Tables}
 use Rattle.reader.specs.Data.{Destination, Instruction, Func}
 use Rattle.reader.specs.Within.{Within}
 use Rattle.std.specs.List.{flat_map}
 use Rattle.std.specs.Option.{option_map, option_map_or, option_and_then}
 
+-- the tables behind a function
+abbrev pub tables_of : Function → Tables
+tables_of g = g.tables.now
+
 -- the tables behind g are those of f. Contracts say this of each f, and not once in the type: before the checks the tables do
 -- not say which f it was, and a ghost field holds facts alone
 pub record Shows (g : Function) (f : Func) : Type 0 where
   pub within : Within f
-  pub holds : Holds g.tables.now f
+  pub holds : Holds (tables_of g) f
 
 -- a list, a flag, an option or a number out of something that may not be there
 abbrev pub list_in : {X Y : Type 0} → Option X → (X → List Y) → List Y

@@ -1,7 +1,7 @@
 // The questions that a function answers. What does not exist is None, an empty slice or 0. Each clause is said of every
 // function that the tables show: why no type says it once stands at `Shows`.
 ghost use Rattle.std.specs.Prelude.{◌≡◌, ℕ, ◌≤◌, length, None, slice_index_or, slice_get};
-ghost use Rattle.function.specs.Answers.{Shows, list_in, option_in, number_in, inst_of, all_insts, params_of, results_of, first_of, end_of, block_of, last_of, destination_of_block, call_of, type_of_value, def_of_value, entry_of_block, entry_of_edge};
+ghost use Rattle.function.specs.Answers.{Shows, tables_of, list_in, option_in, number_in, inst_of, all_insts, params_of, results_of, first_of, end_of, block_of, last_of, destination_of_block, call_of, type_of_value, def_of_value, entry_of_block, entry_of_edge};
 ghost use Rattle.function.specs.Numbering.{uses_of, value_rows};
 ghost use Rattle.reader.specs.Data.{Func};
 ghost use Rattle.std.specs.Option.{option_map};
@@ -16,7 +16,7 @@ use clif::types::Type;
 impl Tables {
     // The function that the tables hold.
     pub fn function(&self) -> Function<'_>
-        ensures { result.tables.now ≡ self.now }
+        ensures { tables_of result ≡ self.now }
     {
         Function { tables: self }
     }

@@ -27,6 +27,10 @@ destination_of d = record { target = d.target; args = values_in d.args }
 abbrev pub destinations_of : Destinations → List Destination
 destinations_of d = several d.left destination d.fields.size (spot d.fields)
 
+-- at most how many are still to be handed out
+abbrev pub destinations_left : Destinations → ℕ
+destinations_left d = d.left
+
 abbrev pub instruction_of : InstRecord → Instruction
 instruction_of x = record {
   opcode = x.opcode;

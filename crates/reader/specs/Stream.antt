@@ -64,6 +64,10 @@ abbrev pub begun : Result Reader Refusal → Outcome Func
 begun (Ok x) = mapped_outcome func_of (left x)
 begun (Err e) = refused (refusal_number e) (refusal_place e)
 
+-- how many instructions of the block at hand are still to come
+abbrev pub insts_left : Reader → ℕ
+insts_left x = x.insts
+
 -- a number that falls with each record
 abbrev pub entries_due : Option ℕ → ℕ
 entries_due None = 65536

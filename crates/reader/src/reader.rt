@@ -2,7 +2,7 @@
 ghost use Rattle.std.specs.Prelude.{◌≡◌, ℕ, ◌<◌, IfOk, ◌==◌};
 ghost use Rattle.reader.specs.Laws.{FormatLaw};
 ghost use Rattle.reader.specs.Reading.{read};
-ghost use Rattle.reader.specs.Stream.{begun, due_count, Handed};
+ghost use Rattle.reader.specs.Stream.{begun, due_count, insts_left, Handed};
 ghost use Rattle.reader.specs.Told.{ReadAs};
 
 use crate::fields::{Field, Fields};
@@ -37,7 +37,7 @@ impl<'a> Reader<'a> {
     pub fn new(file: &'a [u8]) -> Result<Reader<'a>, Refusal>
         ensures begins { read file.now ≡ begun result }
         ensures law { FormatLaw file.now }
-        ensures fresh { IfOk result (λ x. x.insts ≡ 0) }
+        ensures fresh { IfOk result (λ x. insts_left x ≡ 0) }
     {
         let mut fields = Fields {
             size: file.len(),
@@ -85,7 +85,7 @@ impl<'a> Reader<'a> {
 
     // Whether no further instruction of the block at hand comes.
     pub fn at_block_end(&self) -> bool
-        ensures { result ≡ (self.now.insts == 0) }
+        ensures { result ≡ (insts_left self.now == 0) }
     {
         self.insts == 0
     }

@@ -4,7 +4,7 @@ ghost use Rattle.clif.specs.declared.entities.Entry.{Entry};
 ghost use Rattle.clif.specs.declared.types.«Type».{«Type» as Ty};
 ghost use Rattle.reader.specs.Data.{Destination, Instruction};
 ghost use Rattle.reader.specs.Reading.{destination as destination_field, destinations as destinations_field, instruction as instruction_field, repeated, heading as heading_field, order_entry, here};
-ghost use Rattle.reader.specs.Records.{destination_of, destinations_of, instruction_of, heading_of};
+ghost use Rattle.reader.specs.Records.{destination_of, destinations_of, destinations_left, instruction_of, heading_of};
 ghost use Rattle.reader.specs.Told.{ReadAs};
 
 use crate::fields::{Field, Fields};
@@ -71,7 +71,7 @@ impl<'a> Iterator for Destinations<'a> {
 
     ghost next_gives = { YieldsFirstBy destination_of destinations_of };
 
-    ghost remaining = { λ d. at_most d.left };
+    ghost remaining = { λ d. at_most (destinations_left d) };
 
     fn next(&mut self) -> Option<DestRecord<'a>> {
         self.left = self.left.checked_sub(1)?;

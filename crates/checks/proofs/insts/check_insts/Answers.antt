@@ -1,7 +1,6 @@
-use Rattle.std.proofs.Common.{◌<◌, length, sym, ap, ◌∙◌, arith}
-use Rattle.checks.specs.Checks.{inst_tests, tests_of_inst}
-use Rattle.checks.specs.Tests.{first_fault}
-use Rattle.checks.proofs.Runs.{tests_begin, tests_more, tests_stop, tests_end}
+use Rattle.std.proofs.Common.{◌<◌, length, sym, ◌∙◌, arith}
+use Rattle.checks.specs.Checks.{tests_of_inst}
+use Rattle.checks.proofs.Runs.{tests_begin, tests_more, stopped, ended}
 use Rattle.function.specs.Answers.{all_insts}
 use Rattle.checks.proofs.insts.check_insts.Goals as goal
 
@@ -10,32 +9,22 @@ loop-i-init c = λ f h. tests_begin (tests_of_inst f) c.num_insts-n.result
 
 pub returns-then-not-row_fits : goal.returns-then-not-row_fits
 returns-then-not-row_fits c = λ f h.
-    let n = c.num_insts-n.result in
-    let i = c.loop-i.i in
     let row = sym (c.row_fits.ensures f h) ∙ c.if-not-row_fits.true in
-    sym (ap (λ m. first_fault (inst_tests f 0 m)) (sym (c.num_insts-n.ensures.value f h)) ∙ c.loop-i.invariant f h
-    ∙ tests_stop (tests_of_inst f) n i (3, i) c.loop-i-test.true (rw row))
+    stopped (tests_of_inst f) c.num_insts-n.result c.loop-i.i (length (all_insts f)) (c.num_insts-n.ensures.value f h) (c.loop-i.invariant f h) (3, c.loop-i.i) c.loop-i-test.true (rw row)
 
 pub returns-then-not-numbers_fit : goal.returns-then-not-numbers_fit
 returns-then-not-numbers_fit c = λ f h.
-    let n = c.num_insts-n.result in
-    let i = c.loop-i.i in
     let row = sym (c.row_fits.ensures f h) ∙ c.if-not-row_fits.false in
-    let l : i < length (all_insts f) = omega (arith, c.num_insts-n.ensures.value f h, c.loop-i-test.true) in
+    let l : c.loop-i.i < length (all_insts f) = omega (arith, c.num_insts-n.ensures.value f h, c.loop-i-test.true) in
     let numbers = sym (c.numbers_fit.ensures f h l row) ∙ c.if-not-numbers_fit.true in
-    sym (ap (λ m. first_fault (inst_tests f 0 m)) (sym (c.num_insts-n.ensures.value f h)) ∙ c.loop-i.invariant f h
-    ∙ tests_stop (tests_of_inst f) n i (4, i) c.loop-i-test.true (rw (row, numbers)))
+    stopped (tests_of_inst f) c.num_insts-n.result c.loop-i.i (length (all_insts f)) (c.num_insts-n.ensures.value f h) (c.loop-i.invariant f h) (4, c.loop-i.i) c.loop-i-test.true (rw (row, numbers))
 
 pub loop-i-preserved : goal.loop-i-preserved
 loop-i-preserved c = λ f h.
-    let n = c.num_insts-n.result in
-    let i = c.loop-i.i in
     let row = sym (c.row_fits.ensures f h) ∙ c.if-not-row_fits.false in
-    let l : i < length (all_insts f) = omega (arith, c.num_insts-n.ensures.value f h, c.loop-i-test.true) in
+    let l : c.loop-i.i < length (all_insts f) = omega (arith, c.num_insts-n.ensures.value f h, c.loop-i-test.true) in
     let numbers = sym (c.numbers_fit.ensures f h l row) ∙ c.if-not-numbers_fit.false in
-    c.loop-i.invariant f h ∙ tests_more (tests_of_inst f) n i c.loop-i-test.true (rw (row, numbers))
+    c.loop-i.invariant f h ∙ tests_more (tests_of_inst f) c.num_insts-n.result c.loop-i.i c.loop-i-test.true (rw (row, numbers))
 
 pub returns : goal.returns
-returns c = λ f h.
-    sym (ap (λ m. first_fault (inst_tests f 0 m)) (sym (c.num_insts-n.ensures.value f h)) ∙ c.loop-i.invariant f h
-    ∙ tests_end (tests_of_inst f) c.num_insts-n.result c.loop-i.i c.loop-i-test.false)
+returns c = λ f h. ended (tests_of_inst f) c.num_insts-n.result c.loop-i.i (length (all_insts f)) (c.num_insts-n.ensures.value f h) (c.loop-i.invariant f h) c.loop-i-test.false

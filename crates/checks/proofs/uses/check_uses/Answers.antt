@@ -1,7 +1,7 @@
-use Rattle.std.proofs.Common.{sym, ap, ◌∙◌}
-use Rattle.checks.specs.Checks.{uses_tests, tests_of_uses}
-use Rattle.checks.specs.Tests.{first_fault}
-use Rattle.checks.proofs.Runs.{tests_begin, tests_more, tests_stop, tests_end}
+use Rattle.std.proofs.Common.{length, sym, ◌∙◌}
+use Rattle.checks.specs.Checks.{tests_of_uses}
+use Rattle.checks.proofs.Runs.{tests_begin, tests_more, stopped, ended}
+use Rattle.function.specs.Answers.{all_insts}
 use Rattle.checks.proofs.uses.check_uses.Goals as goal
 
 pub loop-i-init : goal.loop-i-init
@@ -10,8 +10,7 @@ loop-i-init c = λ f h. tests_begin (tests_of_uses f) c.num_insts-n.result
 pub returns-then-not-uses_fit : goal.returns-then-not-uses_fit
 returns-then-not-uses_fit c = λ f h.
     let p = sym (c.uses_fit.ensures f h) ∙ c.if-not-uses_fit.true in
-    sym (ap (λ m. first_fault (uses_tests f 0 m)) (sym (c.num_insts-n.ensures.value f h)) ∙ c.loop-i.invariant f h
-    ∙ tests_stop (tests_of_uses f) c.num_insts-n.result c.loop-i.i (6, c.loop-i.i) c.loop-i-test.true (rw p))
+    stopped (tests_of_uses f) c.num_insts-n.result c.loop-i.i (length (all_insts f)) (c.num_insts-n.ensures.value f h) (c.loop-i.invariant f h) (6, c.loop-i.i) c.loop-i-test.true (rw p)
 
 pub loop-i-preserved : goal.loop-i-preserved
 loop-i-preserved c = λ f h.
@@ -19,6 +18,4 @@ loop-i-preserved c = λ f h.
     c.loop-i.invariant f h ∙ tests_more (tests_of_uses f) c.num_insts-n.result c.loop-i.i c.loop-i-test.true (rw p)
 
 pub returns : goal.returns
-returns c = λ f h.
-    sym (ap (λ m. first_fault (uses_tests f 0 m)) (sym (c.num_insts-n.ensures.value f h)) ∙ c.loop-i.invariant f h
-    ∙ tests_end (tests_of_uses f) c.num_insts-n.result c.loop-i.i c.loop-i-test.false)
+returns c = λ f h. ended (tests_of_uses f) c.num_insts-n.result c.loop-i.i (length (all_insts f)) (c.num_insts-n.ensures.value f h) (c.loop-i.invariant f h) c.loop-i-test.false
