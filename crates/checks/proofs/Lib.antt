@@ -5,3 +5,4 @@ pub mod NumberTold
 pub mod OrderTold
 pub mod RowTold
 pub mod Runs
+pub mod UsesTold

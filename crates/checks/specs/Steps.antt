@@ -40,3 +40,8 @@ kept_entry_fits f e (to_edge b k) =
 -- every row and every number fits
 abbrev pub InstsPass : Func → Type 0
 InstsPass f = first_fault (inst_tests f 0 (length (all_insts f))) ≡ None
+
+-- an instruction that was found, as a fault
+abbrev pub fault_at : Option ℕ → Option (ℕ × ℕ)
+fault_at None = None
+fault_at (Some i) = Some (6, i)

@@ -15,8 +15,8 @@ pub(crate) fn check_insts(func: Function) -> Result<(), Refusal>
     ensures { (f : Func) → Shows func.entry f → fault_of result ≡ first_fault (inst_tests f 0 (length (all_insts f))) }
 {
     let n = func.num_insts();
-    // By number: a refusal says which; and by `as`, since `EntityRef` has no `new`. The order and the uses have loops like this; one for all would take the test and the
-    // refusal as closures, and is no shorter.
+    // By number: a refusal says which; and by `as`, since `EntityRef` has no `new`. The order has a loop like this; one for both
+    // would take the test and the refusal as closures, and is no shorter.
     for i in 0..n {
         let inst = Inst(i as u16);
         if !row_fits(func, inst) {

@@ -2,11 +2,10 @@
 // Options are taken apart by `match`: `is_none_or` and `is_some_and` were tried, and no proof of a clause said of each function
 // closed.
 ghost use Rattle.std.specs.Prelude.{◌≡◌, length};
-ghost use Rattle.checks.specs.Checks.{ordered_before, inst_before, def_before, value_before, uses_test, uses_tests};
+ghost use Rattle.checks.specs.Checks.{ordered_before, inst_before, def_before, value_before, uses_tests};
+ghost use Rattle.checks.specs.Steps.{fault_at};
 ghost use Rattle.checks.specs.Tests.{first_fault, fault_of};
-ghost use Rattle.std.specs.List.{list_all};
-ghost use Rattle.function.specs.Answers.{Shows, all_insts, block_of, entry_of_block, inst_of, list_in};
-ghost use Rattle.function.specs.Numbering.{uses_of};
+ghost use Rattle.function.specs.Answers.{Shows, all_insts, block_of, entry_of_block};
 ghost use Rattle.reader.specs.Data.{Func};
 
 use crate::order::is_before;
@@ -25,7 +24,7 @@ fn ordered_before(func: Function, c: Block, b: Block) -> bool
     }
 }
 
-// These four ask of an instruction of block `b`, and their clauses name both: a struct of the two would be taken apart in each.
+// These three ask of an instruction of block `b`, and their clauses name both: a struct of the two would be taken apart in each.
 fn inst_before(func: Function, b: Block, i: usize, j: Inst) -> bool
     ensures { (f : Func) → Shows func.entry f → result ≡ inst_before f b.0 i j.0 (block_of f j.0) }
 {
@@ -59,33 +58,38 @@ fn value_before(func: Function, b: Block, i: usize, v: Value) -> bool
     }
 }
 
-fn uses_before(func: Function, b: Block, inst: Inst) -> bool
-    ensures { (f : Func) → Shows func.entry f → result ≡ list_all (value_before f b.0 inst.0) (list_in (inst_of f inst.0) uses_of) }
+// The first instruction, in file order, with a use that is not defined before it. Three loops and no chain of iterators: a block
+// that the order leaves out is passed over whole, and the label leaves the search from inside with the instruction, as an `Option`.
+// By number, since a refusal says which; and by `as`, since `EntityRef` has no `new`.
+fn early_use(func: Function) -> Option<usize>
+    ensures { (f : Func) → Shows func.entry f → fault_at result ≡ first_fault (uses_tests f 0 (length (all_insts f))) }
 {
-    func.inst_uses(inst)
-        .iter()
-        .all(|v| value_before(func, b, inst.index(), *v))
-}
-
-// Whether all that an instruction uses is defined before it. A block that the order leaves out is not looked at.
-fn uses_fit(func: Function, inst: Inst) -> bool
-    ensures { (f : Func) → Shows func.entry f → result ≡ (uses_test f inst.0).passes }
-{
-    match func.inst_block(inst) {
-        Some(b) => func.block_entry(b).is_none() || uses_before(func, b, inst),
-        None => true,
+    let blocks = func.num_blocks();
+    let insts = func.num_insts();
+    'search: {
+        for b in 0..blocks {
+            let block = Block(b as u16);
+            if func.block_entry(block).is_none() {
+                continue;
+            }
+            let end = func.block_end(block).min(insts);
+            for i in func.block_first(block)..end {
+                for v in func.inst_uses(Inst(i as u16)) {
+                    if !value_before(func, block, i, *v) {
+                        break 'search Some(i);
+                    }
+                }
+            }
+        }
+        None
     }
 }
 
 pub(crate) fn check_uses(func: Function) -> Result<(), Refusal>
     ensures { (f : Func) → Shows func.entry f → fault_of result ≡ first_fault (uses_tests f 0 (length (all_insts f))) }
 {
-    let n = func.num_insts();
-    // By number: a refusal says which; and by `as`, since `EntityRef` has no `new`.
-    for i in 0..n {
-        if !uses_fit(func, Inst(i as u16)) {
-            return Err(Refusal::UseBeforeDefinition(i));
-        }
+    match early_use(func) {
+        Some(i) => Err(Refusal::UseBeforeDefinition(i)),
+        None => Ok(()),
     }
-    Ok(())
 }

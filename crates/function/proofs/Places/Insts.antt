@@ -1,9 +1,9 @@
 -- The block of an instruction, and whether it ends that block.
-use Rattle.std.proofs.Common.{◌≡◌, ℕ, zero, suc, ◌+◌, ◌-◌, ◌<◌, true, List, [], ◌∷◌, length, Some, Option, sym, refl, ap, ◌∙◌, subst, ap₂, inl, inr, add-zero, zero-add, arith, slice_get}
+use Rattle.std.proofs.Common.{◌≡◌, ℕ, zero, suc, ◌+◌, ◌-◌, ◌<◌, ◌≤◌, true, List, [], ◌∷◌, length, Some, Option, sym, refl, ap, ◌∙◌, subst, ap₂, inl, inr, add-zero, zero-add, arith, slice_get}
 use Rattle.clif.specs.declared.entities.Block.{Block}
-use Rattle.function.proofs.Places.Blocks.{size, before}
+use Rattle.function.proofs.Places.Blocks.{size, before, before_more, first_is, end_is}
 use Rattle.function.proofs.Places.Lists.{get_front, get_behind, get_within}
-use Rattle.function.specs.Answers.{all_insts, inst_of, block_of, last_of, ending_of, final, option_in, flag_in}
+use Rattle.function.specs.Answers.{all_insts, inst_of, block_of, last_of, first_of, end_of, ending_of, final, option_in, flag_in}
 use Rattle.function.specs.Numbering.{Numbers, none_before, over_insts, over_blocks, past_inst, past_body, past_params, inst_row, inst_rows}
 use Rattle.function.specs.declared.rows.InstData.{InstData}
 use Rattle.reader.specs.Data.{Instruction, Body, Func}
@@ -110,3 +110,12 @@ module _ (f : Func) where
 
   pub last_is_ending : (i : ℕ) (b : Block) → last_of f i ≡ true → block_of f i ≡ Some b → ending_of f b.0 ≡ inst_of f i
   last_is_ending i b l h = (named i b h).1.last l
+
+  pub within_block : (b i : ℕ) → b < length f.blocks → first_of f b ≤ i → i < end_of f b → block_of f i ≡ Some (block_at b)
+  within_block b i h l g =
+      let j = i - before b f.blocks in
+      let e : before b f.blocks + j ≡ i = omega (arith, first_is f b h) in
+      subst (λ c. block_of f c ≡ Some (block_at b)) e (stands_at b j (omega (arith, end_is f b h, before_more b f.blocks))).block
+
+  pub block_below : (i : ℕ) (b : Block) → block_of f i ≡ Some b → b.0 < length f.blocks
+  block_below i b h = (named i b h).0
