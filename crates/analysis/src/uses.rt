@@ -30,6 +30,7 @@ fn first_result(func: Function, inst: Inst) -> Option<Value>
 }
 
 // The value on which a use counts: of all results of an instruction the first.
+#[tactic(auto, unfolding(crate::specs::Uses::counted_on))]
 fn map_to_first_result(func: Function, val: Value) -> Option<Value>
     ensures { (f : Func) → Shows func.entry f → option_map (λ v. v.0) result ≡ counted_on f val.0 }
 {
