@@ -63,7 +63,7 @@ open_mark xs v = ⊎_elim
     (λ (h : length xs ≤ v). rw (get_or_past xs v Multiple h, set_past xs v Multiple h) (omega arith))
     (cases_lt v (length xs))
 
-left_mark : (w : Work) (o : Option ℕ) → left (marked w o) ≤ left w
+pub left_mark : (w : Work) (o : Option ℕ) → left (marked w o) ≤ left w
 unfolding marked left
 left_mark w None = omega arith
 left_mark w (Some v) =

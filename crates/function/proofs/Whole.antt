@@ -54,7 +54,7 @@ file_stored x s z =
     ∙ sym (mapped_twice (λ f. stored (tail_of f) s) func_of (left x))
 
 -- a file that was stored whole is a function, and the tables are its own
-file_filled : (file : List ℕ) (s : Tables) → FormatLaw file → stored_file file zero_store ≡ done s → (f : Func) × (read file ≡ done f) × Within f × (s ≡ store_of f)
+pub file_filled : (file : List ℕ) (s : Tables) → FormatLaw file → stored_file file zero_store ≡ done s → (f : Func) × (read file ≡ done f) × Within f × (s ≡ store_of f)
 file_filled file s law e = go (read file) refl
   where
     go : (o : Outcome Func) → read file ≡ o → (f : Func) × (read file ≡ done f) × Within f × (s ≡ store_of f)

@@ -61,39 +61,39 @@ here_fault {A} p size s n q = go (p size s)
     go (fault m k) e = cc
 
 module _ (size : ℕ) (o : Option ℕ) (s : Spot) where
-  inst_next : (z i b : ℕ) (t : Spot) (a : Instruction) → z ≡ size → 0 < i → got a t ≡ instruction size s
+  pub inst_next : (z i b : ℕ) (t : Spot) (a : Instruction) → z ≡ size → 0 < i → got a t ≡ instruction size s
       → ended size (remaining i b o size s) ≡ mapped_outcome (with_inst a) (ended z (remaining (i - 1) b o z t))
   inst_next z zero b t a y h e = absurd (omega arith)
   inst_next z (suc i) b t a y h e = let k : suc i - 1 ≡ i = omega arith in rw (y, k, ← e) (simp (map_ended, after_assoc))
 
-  inst_wrong : (i b n p : ℕ) → 0 < i → fault n p ≡ instruction size s → ended size (remaining i b o size s) ≡ refused n p
+  pub inst_wrong : (i b n p : ℕ) → 0 < i → fault n p ≡ instruction size s → ended size (remaining i b o size s) ≡ refused n p
   inst_wrong zero b n p h e = absurd (omega arith)
   inst_wrong (suc i) b n p h e = rw (← e)
 
-  block_next : (z i b : ℕ) (t : Spot) (ps : List Ty) (n : ℕ) → z ≡ size → i ≡ 0 → 0 < b → got (ps, n) t ≡ heading size s
+  pub block_next : (z i b : ℕ) (t : Spot) (ps : List Ty) (n : ℕ) → z ≡ size → i ≡ 0 → 0 < b → got (ps, n) t ≡ heading size s
       → ended size (remaining i b o size s) ≡ mapped_outcome (with_block ps) (ended z (remaining n (b - 1) o z t))
   block_next z i zero t ps n y iz h e = absurd (omega arith)
   block_next z i (suc b) t ps n y iz h e = let k : suc b - 1 ≡ b = omega arith in rw (y, iz, k, ← e) (simp (map_ended, after_assoc))
 
-  block_wrong : (i b n p : ℕ) → i ≡ 0 → 0 < b → fault n p ≡ heading size s → ended size (remaining i b o size s) ≡ refused n p
+  pub block_wrong : (i b n p : ℕ) → i ≡ 0 → 0 < b → fault n p ≡ heading size s → ended size (remaining i b o size s) ≡ refused n p
   block_wrong i zero n p iz h e = absurd (omega arith)
   block_wrong i (suc b) n p iz h e = rw (iz, ← e)
 
   -- behind the last block
   module _ (i b : ℕ) (iz : i ≡ 0) (bz : b ≡ 0) where
-    count_wrong : (n p : ℕ) → fault n p ≡ due_count o size s → ended size (remaining i b o size s) ≡ refused n p
+    pub count_wrong : (n p : ℕ) → fault n p ≡ due_count o size s → ended size (remaining i b o size s) ≡ refused n p
     count_wrong n p e = rw (iz, bz, ← e)
 
-    entry_wrong : (m : ℕ) (t : Spot) (n p : ℕ) → 0 < m → got m t ≡ due_count o size s → fault n p ≡ order_entry size t → ended size (remaining i b o size s) ≡ refused n p
+    pub entry_wrong : (m : ℕ) (t : Spot) (n p : ℕ) → 0 < m → got m t ≡ due_count o size s → fault n p ≡ order_entry size t → ended size (remaining i b o size s) ≡ refused n p
     entry_wrong zero t n p h e f = absurd (omega arith)
     entry_wrong (suc m) t n p h e f = rw (iz, bz, ← e, ← f)
 
-    entry_next : (z m : ℕ) (t u : Spot) (x : Entry) → z ≡ size → 0 < m → got m t ≡ due_count o size s → got x u ≡ order_entry size t
+    pub entry_next : (z m : ℕ) (t u : Spot) (x : Entry) → z ≡ size → 0 < m → got m t ≡ due_count o size s → got x u ≡ order_entry size t
         → ended size (remaining i b o size s) ≡ mapped_outcome (with_entry x) (ended z (remaining i b (Some (m - 1)) z u))
     entry_next z zero t u x y h e f = absurd (omega arith)
     entry_next z (suc m) t u x y h e f = let k : suc m - 1 ≡ m = omega arith in rw (y, iz, bz, k, ← e, ← f) (simp (map_ended, after_assoc))
 
-ended_back : {A : Type 0} (size : ℕ) (r : Read A) (a : A) → ended size r ≡ done a → (s : Spot) × (r ≡ got a s)
+pub ended_back : {A : Type 0} (size : ℕ) (r : Read A) (a : A) → ended size r ≡ done a → (s : Spot) × (r ≡ got a s)
 ended_back size (got x s) a e = go (eqb (length s.rest) 0) e
   where
     go : (b : Bool) → cond b (done x) (refused 1 (place size s)) ≡ done a → (t : Spot) × (got x s ≡ got a t)
@@ -140,12 +140,12 @@ count_back k least size kind s t m e =
     let b = admitted_back (place size s) a.0 least kind a.1 t m a.3 in
     (b.0, b.1 ∙ number_rest k size s a.1 a.0 a.2)
 
-count_place : (o : Option ℕ) (size m : ℕ) (s t : Spot) → got m t ≡ due_count o size s → place size t ≡ entry_place o size s
+pub count_place : (o : Option ℕ) (size m : ℕ) (s t : Spot) → got m t ≡ due_count o size s → place size t ≡ entry_place o size s
 count_place None size m s t e = ap (λ l. size - l) (ap length (count_back 2 1 size Entries s t m e).1 ∙ length-drop 2 s.rest)
 count_place (Some n) size m s t e = ap (λ r. elim r [ got x v ↦ place size v | fault i j ↦ 0 ]) e
 
 -- fewer entries are due than before, whether their count was read or not
-entries_fall : (o : Option ℕ) (size m : ℕ) (s t : Spot) → 0 < m → got m t ≡ due_count o size s → m - 1 < entries_due o
+pub entries_fall : (o : Option ℕ) (size m : ℕ) (s t : Spot) → 0 < m → got m t ≡ due_count o size s → m - 1 < entries_due o
 entries_fall None size m s t h e = let few = (count_back 2 1 size Entries s t m e).0 in omega arith
 entries_fall (Some n) size m s t h e = let q : m ≡ n = cc in omega arith
 
