@@ -1,22 +1,11 @@
 -- Loops that test each element: what is left to test, one turn on.
-use Rattle.std.proofs.Common.{◌≡◌, ℕ, suc, ◌+◌, ◌<◌, ◌≤◌, Bool, true, false, ◌&&◌, List, [], ◌∷◌, length, get_or, drop, sym, refl, ap, ◌∙◌, arith}
+use Rattle.std.proofs.Common.{◌≡◌, suc, false, ◌&&◌, List, [], ◌∷◌, length, refl, ap, arith}
 use Rattle.checks.specs.Checks.{same_type, same_types}
 use Rattle.std.specs.List.{list_all, zip}
 use Rattle.clif.specs.declared.entities.Value.{Value}
 use Rattle.function.specs.Answers.{type_of_value}
 use Rattle.reader.specs.Data.{Func}
-use Rattle.std.proofs.lemmas.List.{drop_more, drop_all}
 use Rattle.std.proofs.lemmas.Bool.{and_right}
-
-module _ {X : Type 0} (test : X → Bool) (xs : List X) (i : ℕ) where
-  pub pass_more : (d x : X) → i < length xs → x ≡ get_or xs i d → test x ≡ true → list_all test (drop i xs) ≡ list_all test (drop (i + 1) xs)
-  pass_more d x h e t = let u : test (get_or xs i d) ≡ true = ap test (sym e) ∙ t in rw (drop_more xs i d h, u)
-
-  pub pass_stop : (d x : X) → i < length xs → x ≡ get_or xs i d → test x ≡ false → list_all test (drop i xs) ≡ false
-  pass_stop d x h e t = let u : test (get_or xs i d) ≡ false = ap test (sym e) ∙ t in rw (drop_more xs i d h, u)
-
-  pub pass_all : length xs ≤ i → list_all test (drop i xs) ≡ true
-  pass_all h = rw (drop_all i xs h)
 
 -- values here and there, side by side
 module _ (f : Func) (vs ws : List Value) where

@@ -54,10 +54,10 @@ module _ (each : ℕ → List Test) where
         let t : suc i ≡ i + 1 = omega arith in
         rw s (fault_behind (each i) _ e ∙ ap (λ j. first_fault (tests_from each j (n - (i + 1)))) t)
 
-    pub tests_stop : (p : ℕ × ℕ) → i < n → first_fault (each i) ≡ Some p → first_fault (tests_from each i (n - i)) ≡ Some p
+    tests_stop : (p : ℕ × ℕ) → i < n → first_fault (each i) ≡ Some p → first_fault (tests_from each i (n - i)) ≡ Some p
     tests_stop p h e = let s : n - i ≡ suc (n - (i + 1)) = omega arith in rw s (fault_before (each i) _ p e)
 
-    pub tests_end : n ≤ i → first_fault (tests_from each i (n - i)) ≡ None
+    tests_end : n ≤ i → first_fault (tests_from each i (n - i)) ≡ None
     tests_end h = let s : n - i ≡ 0 = omega arith in rw s
 
     -- of m tests in all, those up to i having passed: the next one stops, or there is none

@@ -1,8 +1,8 @@
 -- The tests of uses, block by block.
-use Rattle.std.proofs.Common.{◌≡◌, ℕ, zero, suc, ◌+◌, ◌-◌, ◌<◌, ◌≤◌, true, false, cond, ltb, length, is_some, Some, None, Option, sym, ap, ◌∙◌, ⊎_elim, arith, slice_get}
+use Rattle.std.proofs.Common.{◌≡◌, ℕ, zero, suc, ◌+◌, ◌-◌, ◌<◌, ◌≤◌, true, false, cond, ltb, length, is_some, None, Some, Option, sym, ap, ◌∙◌, ⊎_elim, arith, slice_get}
 use Rattle.checks.specs.Checks.{uses_test, uses_tests, tests_of_uses, value_before}
 use Rattle.checks.specs.Tests.{first_fault}
-use Rattle.checks.proofs.Runs.{tests_more, tests_stop, tests_end}
+use Rattle.checks.proofs.Runs.{tests_more}
 use Rattle.function.proofs.Places.Blocks.{first_at_zero, end_is_next, end_is_all, end_is, before_bound}
 use Rattle.function.proofs.Places.Insts.{within_block}
 use Rattle.function.specs.Answers.{all_insts, inst_of, first_of, end_of, entry_of_block, list_in, number_in}
@@ -15,16 +15,6 @@ use Rattle.std.proofs.lemmas.Bool.{lt-ltb, le-ltb, cases_lt}
 -- what is left of the tests at instruction i
 abbrev pub left_from : Func → ℕ → ℕ → Option (ℕ × ℕ)
 left_from f n i = first_fault (uses_tests f i (n - i))
-
-module _ (f : Func) (n i : ℕ) where
-  pub uses_more : i < n → (uses_test f i).passes ≡ true → left_from f n i ≡ left_from f n (i + 1)
-  uses_more h a = tests_more (tests_of_uses f) n i h (rw a)
-
-  pub uses_stop : i < n → (uses_test f i).passes ≡ false → left_from f n i ≡ Some (6, i)
-  uses_stop h a = tests_stop (tests_of_uses f) n i (6, i) h (rw a)
-
-  pub uses_end : n ≤ i → left_from f n i ≡ None
-  uses_end h = tests_end (tests_of_uses f) n i h
 
 -- the first instruction of block b, or behind the last one
 abbrev pub start_of : Func → ℕ → ℕ
@@ -65,12 +55,10 @@ pub skip_block : (f : Func) (n b k : ℕ) → b < length f.blocks → is_some (e
     → left_from f n (first_of f b) ≡ left_from f n (first_of f b + k)
 skip_block f n b zero h e l m = ap (left_from f n) (omega arith)
 skip_block f n b (suc k) h e l m =
-    let s : first_of f b + k + 1 ≡ first_of f b + suc k = omega arith in
-    skip_block f n b k h e (omega arith) m ∙ uses_more f n (first_of f b + k) (omega arith) (unordered_passes f b (first_of f b + k) h (omega arith) (omega arith) e) ∙ ap (left_from f n) s
+    let i = first_of f b + k in
+    let s : i + 1 ≡ first_of f b + suc k = omega arith in
+    skip_block f n b k h e (omega arith) m ∙ tests_more (tests_of_uses f) n i (omega arith) (rw (unordered_passes f b i h (omega arith) (omega arith) e)) ∙ ap (left_from f n) s
 
 -- no block ends behind the last instruction
 pub end_below : (f : Func) (b : ℕ) → b < length f.blocks → end_of f b ≤ length (all_insts f)
 end_below f b h = let a = end_is f b h in let m = before_bound (suc b) f.blocks in omega arith
-
-pub whole : (f : Func) (n : ℕ) → n ≡ length (all_insts f) → first_fault (uses_tests f 0 (length (all_insts f))) ≡ left_from f n 0
-whole f n e = let m : length (all_insts f) ≡ n - 0 = omega arith in ap (λ k. first_fault (uses_tests f 0 k)) m
